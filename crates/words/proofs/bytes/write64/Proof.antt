@@ -1,0 +1,25 @@
+use mathlib.Core.Path.{_∙_}
+use native.Mathlib.Omega.{arith}
+use Rattle.words.specs.BytesLaws.{bytes-8, sets-append, length-bytes}
+use borrow.Author.Needs.{needs}
+use Rattle.words.proofs.bytes.write64.Statement.{statement}
+use Rattle.words.proofs.bytes.write64.Tie as tie
+
+write32-requires : tie.Need-write32-requires
+write32-requires c κs = search needs
+
+add-write32 : tie.Need-add-write32
+add-write32 c = search needs
+
+write32-requires-2 : tie.Need-write32-requires-2
+write32-requires-2 c κs = search needs
+
+same-length : tie.Need-same-length
+same-length c = search needs
+
+returns : tie.Need-returns
+returns c = rw (bytes-8, sets-append, length-bytes) cc
+
+pub write64-spec : {M : Type 1} → statement M
+write64-spec =
+    tie.close (tie.spec write32-requires add-write32 write32-requires-2 same-length returns)

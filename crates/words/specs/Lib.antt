@@ -1,0 +1,6 @@
+pub mod Bytes
+pub mod BytesLaws
+pub mod Columns
+pub mod Log
+pub mod LogLaws
+pub mod Quotient
