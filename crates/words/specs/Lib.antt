@@ -4,3 +4,4 @@ pub mod Columns
 pub mod Log
 pub mod LogLaws
 pub mod Quotient
+pub mod QuotientLaws

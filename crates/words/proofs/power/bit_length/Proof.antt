@@ -1,19 +1,18 @@
+-- `words::power::bit_length` meets its contract. Assumes nothing.
+use native.Mathlib.Omega.{arith}
+use lib.Count.{leading-le}
+use Rattle.words.specs.LogLaws.{log-leading}
 use Rattle.words.proofs.power.bit_length.Statement.{statement}
 use Rattle.words.proofs.power.bit_length.Tie as tie
-use Rattle.words.proofs.power.bit_length.Reads as reads
-use Rattle.words.proofs.power.bit_length.Lts as lts
 
--- src/power.rt:36:10
 cast-result : tie.Need-cast-result
-cast-result c = ?
+cast-result c = omega (arith, leading-le 64 (c .args .x))
 
--- src/power.rt:36:5
 sub-result : tie.Need-sub-result
-sub-result c = ?
+sub-result c = omega (arith, leading-le 64 (c .args .x))
 
--- src/power.rt:33:1
 returns : tie.Need-returns
-returns c = ?
+returns c = log-leading (c .args .x) (c .fits .x .fits)
 
 pub bit-length-spec : {M : Type 1} → statement M
 bit-length-spec = tie.close (tie.spec cast-result sub-result returns)

@@ -1,18 +1,18 @@
+-- `words::power::floor_div_pow2` meets its contract. Assumes nothing.
+use mathlib.Core.Path.{sym}
+use native.Mathlib.Nat.{div-eq-of-lt}
+use native.Mathlib.Omega.{arith}
+use lib.Pow.{pow-mono}
 use borrow.Author.Needs.{needs}
 use Rattle.words.proofs.power.floor_div_pow2.Statement.{statement}
 use Rattle.words.proofs.power.floor_div_pow2.Tie as tie
-use Rattle.words.proofs.power.floor_div_pow2.Reads as reads
-use Rattle.words.proofs.power.floor_div_pow2.Lts as lts
 
--- src/power.rt:19:29
 shr-result : tie.Need-shr-result
 shr-result c = search needs
 
--- src/power.rt:16:1
 returns : tie.Need-returns
-returns c = ?
+returns c = sym (div-eq-of-lt (omega (arith, pow-mono (c .if1 .taken))))
 
--- src/power.rt:16:1
 returns-2 : tie.Need-returns-2
 returns-2 c = search needs
 
