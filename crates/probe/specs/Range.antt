@@ -15,9 +15,9 @@ use Rattle.probe.specs.declared.range.Reduced.{Reduced}
 use Rattle.probe.specs.declared.range.Reduced.the-variants as reduced
 
 -- the words of n counters from base on. The retry is a counter's lowest field, so that those of one probe follow each other.
-unfoldable pub wordsAt : (key_in key_out base n : ℕ) → List ℕ
-wordsAt key_in key_out base zero = []
-wordsAt key_in key_out base (suc n) = wordOf key_in key_out base ∷ wordsAt key_in key_out (base + 1) n
+unfoldable pub wordsAt : (inner outer base n : ℕ) → List ℕ
+wordsAt inner outer base zero = []
+wordsAt inner outer base (suc n) = wordOf inner outer base ∷ wordsAt inner outer (base + 1) n
 
 -- RANGE: "all allowed words rejected, with the number of words"
 abbrev pub allRejected : ℕ → Drawn
@@ -33,8 +33,8 @@ reduceOf (word ∷ words) u used =
     (reduceOf words u (used + 1))
 
 -- an index below u from at most cap words, by the numbers that key them and the counter of the first
-unfoldable pub drawOf : (key_in key_out base u cap : ℕ) → Drawn
-drawOf key_in key_out base u cap = reduceOf (wordsAt key_in key_out base cap) u 0
+unfoldable pub drawOf : (inner outer base u cap : ℕ) → Drawn
+drawOf inner outer base u cap = reduceOf (wordsAt inner outer base cap) u 0
 
 -- the index of an identity in a level of u slots of an elastic table, at a probe
 unfoldable pub elasticDrawOf : (seed identity level probe u cap : ℕ) → Drawn

@@ -28,8 +28,8 @@ unfoldable pub funnelOutOf : (seed identity : ℕ) → ℕ
 funnelOutOf seed identity = mix64Of ((keyedOf seed identity + 0x8BB84B93962EACC9) % 2 ^ 64)
 
 -- "word = mix64(counter xor in) xor out"; for the elastic table the key is both
-unfoldable pub wordOf : (key_in key_out counter : ℕ) → ℕ
-wordOf key_in key_out counter = xor (mix64Of (xor counter key_in)) key_out
+unfoldable pub wordOf : (inner outer counter : ℕ) → ℕ
+wordOf inner outer counter = xor (mix64Of (xor counter inner)) outer
 
 -- "word = mix64(counter xor key) xor key"
 abbrev pub elasticWordOf : (seed identity level probe retry : ℕ) → ℕ
@@ -41,9 +41,9 @@ funnelWordOf seed identity domain probe retry =
     wordOf (funnelInOf seed identity) (funnelOutOf seed identity) (funnelCounterOf domain probe retry)
 
 -- the word of a counter that was packed, or its refusal
-abbrev pub worded : (key_in key_out : ℕ) → PackedCounter → ProbeWord
-worded key_in key_out (packed.Packed counter) = Word (wordOf key_in key_out counter)
-worded key_in key_out packed.Counter = Counter
+abbrev pub worded : (inner outer : ℕ) → PackedCounter → ProbeWord
+worded inner outer (packed.Packed counter) = Word (wordOf inner outer counter)
+worded inner outer packed.Counter = Counter
 
 -- what a call for one word answers
 unfoldable pub elasticWordedOf : (seed identity level probe retry : ℕ) → ProbeWord

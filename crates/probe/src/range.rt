@@ -3,10 +3,10 @@ ghost use mathlib.Core.Path.{_≡_};
 ghost use Prim.Native.Nat.{_+_, _-_, _*_, _%_, _^_, _<_, _≤_};
 ghost use lib.Dec.{leb};
 ghost use Rattle.probe.specs.Range.{wordsAt, reduceOf, drawOf, reducedOf, elasticReduceOf, funnelReduceOf};
-use counter::{domain_fits, elastic_base, funnel_base, Domain};
-use counter::{ELASTIC_LEVELS, ELASTIC_PROBES, ELASTIC_WORDS, FUNNEL_PROBES, FUNNEL_WORDS};
+use crate::counter::{domain_fits, elastic_base, funnel_base, Domain};
+use crate::counter::{ELASTIC_LEVELS, ELASTIC_PROBES, ELASTIC_WORDS, FUNNEL_PROBES, FUNNEL_WORDS};
 use refusal::RangeRefusal;
-use word::{elastic_key, funnel_key, keyed_word, FunnelKey};
+use crate::word::{elastic_key, funnel_key, keyed_word, FunnelKey};
 use words::power::two64_mod;
 use words::product::{multiply, multiply_high};
 
@@ -47,7 +47,7 @@ pub fn elastic_reduce(
     if ELASTIC_WORDS < cap {
         return Reduced::Counter;
     }
-    reduced(elastic_draw(
+    answer(elastic_draw(
         elastic_key(seed, identity),
         elastic_base(level, probe),
         upper,
@@ -78,7 +78,7 @@ pub fn funnel_reduce(
     if FUNNEL_WORDS < cap {
         return Reduced::Counter;
     }
-    reduced(funnel_draw(
+    answer(funnel_draw(
         funnel_key(seed, identity),
         funnel_base(domain, probe),
         upper,
@@ -87,7 +87,7 @@ pub fn funnel_reduce(
 }
 
 // A draw's answer as the bare reduction gives it.
-fn reduced(drawn: Drawn) -> Reduced
+fn answer(drawn: Drawn) -> Reduced
     ensures { λ r. ⌜ r ≡ reducedOf drawn ⌝ }
 {
     match drawn {
@@ -107,37 +107,37 @@ pub fn elastic_draw(key: u64, base: u64, upper: u64, cap: u64) -> Drawn
 // The core for the funnel table: key is the identity's, base a counter with retry 0.
 pub fn funnel_draw(key: FunnelKey, base: u64, upper: u64, cap: u64) -> Drawn
     requires { ⌜ (0 < upper) × (base + cap ≤ 2 ^ 64) ⌝ }
-    ensures { λ r. ⌜ r ≡ drawOf (key .key_in) (key .key_out) base upper cap ⌝ }
+    ensures { λ r. ⌜ r ≡ drawOf (key .inner) (key .outer) base upper cap ⌝ }
 {
-    draw(key.key_in, key.key_out, base, upper, cap)
+    draw(key.inner, key.outer, base, upper, cap)
 }
 
 // The first word alone decides nearly always, so it stands before the loop.
-fn draw(key_in: u64, key_out: u64, base: u64, upper: u64, cap: u64) -> Drawn
+fn draw(inner: u64, outer: u64, base: u64, upper: u64, cap: u64) -> Drawn
     requires { ⌜ (0 < upper) × (base + cap ≤ 2 ^ 64) ⌝ }
-    ensures { λ r. ⌜ r ≡ drawOf key_in key_out base upper cap ⌝ }
+    ensures { λ r. ⌜ r ≡ drawOf inner outer base upper cap ⌝ }
 {
     if cap == 0 {
         return Drawn::Refused(RangeRefusal { words: 0 });
     }
-    let word = keyed_word(key_in, key_out, base);
+    let word = keyed_word(inner, outer, base);
     if accepts(multiply(word, upper), upper) {
         return Drawn::Index {
             index: multiply_high(word, upper),
             words: 1,
         };
     }
-    redraw(key_in, key_out, base, upper, cap)
+    redraw(inner, outer, base, upper, cap)
 }
 
 // The words after the first.
-fn redraw(key_in: u64, key_out: u64, base: u64, upper: u64, cap: u64) -> Drawn
+fn redraw(inner: u64, outer: u64, base: u64, upper: u64, cap: u64) -> Drawn
     requires { ⌜ (0 < upper) × (base + cap ≤ 2 ^ 64) × (0 < cap) ⌝ }
-    ensures { λ r. ⌜ r ≡ reduceOf (wordsAt key_in key_out (base + 1) (cap - 1)) upper 1 ⌝ }
+    ensures { λ r. ⌜ r ≡ reduceOf (wordsAt inner outer (base + 1) (cap - 1)) upper 1 ⌝ }
 {
     let mut used = 1;
     while used < cap {
-        let word = keyed_word(key_in, key_out, base + used);
+        let word = keyed_word(inner, outer, base + used);
         used += 1;
         if accepts(multiply(word, upper), upper) {
             return Drawn::Index {

@@ -1,13 +1,13 @@
 // Keys of an identity under a seed, and the words that a key and a counter give.
 ghost use mathlib.Core.Path.{_≡_};
 ghost use Rattle.probe.specs.Word.{elasticKeyOf, funnelInOf, funnelOutOf, wordOf, elasticWordedOf, funnelWordedOf};
-use counter::{elastic_counter, funnel_counter, Domain, PackedCounter};
-use mix::mix64;
+use crate::counter::{elastic_counter, funnel_counter, Domain, PackedCounter};
+use crate::mix::mix64;
 
-// The two numbers that key a funnel's words.
+// The two numbers that key a funnel's words: 01's "in" and "out", the Rust's `key_in` and `key_out`.
 pub struct FunnelKey {
-    pub key_in: u64,
-    pub key_out: u64,
+    pub inner: u64,
+    pub outer: u64,
 }
 
 // A word, or the refusal of a field beyond the packing.
@@ -28,20 +28,20 @@ pub fn elastic_key(seed: u64, identity: u64) -> u64
 
 // "keyed = identity + seed, wrapped; in = keyed + 2D358DCCAA6C78A5; out = mix64(keyed + 8BB84B93962EACC9)"
 pub fn funnel_key(seed: u64, identity: u64) -> FunnelKey
-    ensures { λ r. ⌜ (r .key_in ≡ funnelInOf seed identity) × (r .key_out ≡ funnelOutOf seed identity) ⌝ }
+    ensures { λ r. ⌜ (r .inner ≡ funnelInOf seed identity) × (r .outer ≡ funnelOutOf seed identity) ⌝ }
 {
     let keyed = std::num::wrapping_add_u64(identity, seed);
     FunnelKey {
-        key_in: std::num::wrapping_add_u64(keyed, 0x2D358DCCAA6C78A5),
-        key_out: mix64(std::num::wrapping_add_u64(keyed, 0x8BB84B93962EACC9)),
+        inner: std::num::wrapping_add_u64(keyed, 0x2D358DCCAA6C78A5),
+        outer: mix64(std::num::wrapping_add_u64(keyed, 0x8BB84B93962EACC9)),
     }
 }
 
 // "word = mix64(counter xor key) xor key" for the elastic table; the funnel's key is one number inside and one outside.
-pub fn keyed_word(key_in: u64, key_out: u64, counter: u64) -> u64
-    ensures { λ r. ⌜ r ≡ wordOf key_in key_out counter ⌝ }
+pub fn keyed_word(inner: u64, outer: u64, counter: u64) -> u64
+    ensures { λ r. ⌜ r ≡ wordOf inner outer counter ⌝ }
 {
-    mix64(counter ^ key_in) ^ key_out
+    mix64(counter ^ inner) ^ outer
 }
 
 // One word of an elastic probe.
@@ -64,7 +64,7 @@ pub fn funnel_word(seed: u64, identity: u64, domain: Domain, probe: u64, retry: 
     match funnel_counter(domain, probe, retry) {
         PackedCounter::Packed(counter) => {
             let key = funnel_key(seed, identity);
-            ProbeWord::Word(keyed_word(key.key_in, key.key_out, counter))
+            ProbeWord::Word(keyed_word(key.inner, key.outer, counter))
         }
         PackedCounter::Counter => ProbeWord::Counter,
     }
