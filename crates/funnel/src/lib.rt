@@ -1,0 +1,3 @@
+// Funnel tables.
+
+pub mod table;
