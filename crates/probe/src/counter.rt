@@ -6,12 +6,16 @@ ghost use Rattle.probe.specs.Counter.{elasticCounterOf, elasticPackedOf,
 
 // "limits 32, 8192, 8"
 pub const ELASTIC_LEVELS: u64 = 32;
+
 pub const ELASTIC_PROBES: u64 = 8192;
+
 pub const ELASTIC_WORDS: u64 = 8;
 
 // "limits 2^46, 256, 256"
 pub const FUNNEL_LEVELS: u64 = 0x4000_0000_0000;
+
 pub const FUNNEL_PROBES: u64 = 256;
+
 pub const FUNNEL_WORDS: u64 = 256;
 
 // What a funnel's word is for. Only an ordinary one has a level, so that no special tag comes with one.

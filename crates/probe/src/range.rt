@@ -3,12 +3,23 @@ ghost use mathlib.Core.Path.{_≡_};
 ghost use Prim.Native.Nat.{_+_, _-_, _*_, _%_, _^_, _<_, _≤_};
 ghost use lib.Dec.{leb};
 ghost use Rattle.probe.specs.Range.{wordsAt, reduceOf, drawOf, reducedOf, elasticReduceOf, funnelReduceOf};
-use crate::counter::{domain_fits, elastic_base, funnel_base, Domain};
-use crate::counter::{ELASTIC_LEVELS, ELASTIC_PROBES, ELASTIC_WORDS, FUNNEL_PROBES, FUNNEL_WORDS};
+use crate::counter::Domain;
+use crate::counter::ELASTIC_LEVELS;
+use crate::counter::ELASTIC_PROBES;
+use crate::counter::ELASTIC_WORDS;
+use crate::counter::FUNNEL_PROBES;
+use crate::counter::FUNNEL_WORDS;
+use crate::counter::domain_fits;
+use crate::counter::elastic_base;
+use crate::counter::funnel_base;
+use crate::word::FunnelKey;
+use crate::word::elastic_key;
+use crate::word::funnel_key;
+use crate::word::keyed_word;
 use refusal::RangeRefusal;
-use crate::word::{elastic_key, funnel_key, keyed_word, FunnelKey};
 use words::power::two64_mod;
-use words::product::{multiply, multiply_high};
+use words::product::multiply;
+use words::product::multiply_high;
 
 // What a reduction gives where its range and counters are right: an index and the words it took, or that all were rejected.
 pub enum Drawn {

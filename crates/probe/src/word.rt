@@ -1,7 +1,10 @@
 // Keys of an identity under a seed, and the words that a key and a counter give.
 ghost use mathlib.Core.Path.{_≡_};
 ghost use Rattle.probe.specs.Word.{elasticKeyOf, funnelInOf, funnelOutOf, wordOf, elasticWordedOf, funnelWordedOf};
-use crate::counter::{elastic_counter, funnel_counter, Domain, PackedCounter};
+use crate::counter::Domain;
+use crate::counter::PackedCounter;
+use crate::counter::elastic_counter;
+use crate::counter::funnel_counter;
 use crate::mix::mix64;
 
 // The two numbers that key a funnel's words: 01's "in" and "out", the Rust's `key_in` and `key_out`.
