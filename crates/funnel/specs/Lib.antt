@@ -1,3 +1,6 @@
+pub mod Insert
 pub mod Path
 pub mod Search
-pub mod Insert
+pub mod SearchLaws
+pub mod StageLaws
+pub mod Valid

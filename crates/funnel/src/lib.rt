@@ -1,3 +1,4 @@
 // Funnel tables.
 
+pub mod scan;
 pub mod table;
