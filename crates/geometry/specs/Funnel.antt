@@ -45,3 +45,7 @@ pub record IsPlan (n e : ℕ) (p : FunnelPlan) (cs : List ℕ) : Type 0 where
   pub exponent : 3 ≤ e
   pub numbers : PlanNumbers n e p
   pub levels : PlanCounts (p .«total_buckets») (alphaOf e) (p .«first_bucket_count») cs
+
+-- there is a plan of n and e
+abbrev pub Layout : ℕ → ℕ → Type 0
+Layout n e = (p : FunnelPlan) × (cs : List ℕ) × IsPlan n e p cs

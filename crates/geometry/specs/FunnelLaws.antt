@@ -149,11 +149,11 @@ module _ {n e : ℕ} {p : FunnelPlan} {cs : List ℕ} (i : IsPlan n e p cs) wher
       omega (arith, s, t, u)
 
 -- plans with equal numbers are equal
-planOf : ℕ → ℕ → ℕ → ℕ → ℕ → ℕ → ℕ → ℕ → ℕ → ℕ → ℕ → FunnelPlan
+pub planOf : ℕ → ℕ → ℕ → ℕ → ℕ → ℕ → ℕ → ℕ → ℕ → ℕ → ℕ → FunnelPlan
 planOf a b d f g h i j k l o =
     record { maximum = a; alpha = b; beta = d; «loglog_ceiling» = f; «fallback_bucket_width» = g; «special_len» = h; «special_primary_len» = i; «special_fallback_len» = j; «fallback_bucket_count» = k; «total_buckets» = l; «first_bucket_count» = o }
 
-plan-made : (p : FunnelPlan) → planOf (p .maximum) (p .alpha) (p .beta) (p .«loglog_ceiling») (p .«fallback_bucket_width») (p .«special_len») (p .«special_primary_len») (p .«special_fallback_len») (p .«fallback_bucket_count») (p .«total_buckets») (p .«first_bucket_count») ≡ p
+pub plan-made : (p : FunnelPlan) → planOf (p .maximum) (p .alpha) (p .beta) (p .«loglog_ceiling») (p .«fallback_bucket_width») (p .«special_len») (p .«special_primary_len») (p .«special_fallback_len») (p .«fallback_bucket_count») (p .«total_buckets») (p .«first_bucket_count») ≡ p
 unfolding planOf
 plan-made p = refl
 

@@ -21,3 +21,5 @@ pub mod LengthLaws
 pub mod LevelLaws
 pub mod Funnel
 pub mod FunnelLaws
+pub mod FunnelExist
+pub mod FunnelGate
