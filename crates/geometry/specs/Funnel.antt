@@ -16,11 +16,8 @@ alphaOf e = 4 * e + 10
 abbrev pub betaOf : ℕ → ℕ
 betaOf e = 2 * e
 
--- p and cs are the plan of n and e
-pub record IsPlan (n e : ℕ) (p : FunnelPlan) (cs : List ℕ) : Type 0 where
-  -- n and e are in the domain, and "funnel, e below 3" is refused
-  pub configured : Configured n e
-  pub exponent : 3 ≤ e
+-- the numbers of the plan
+pub record PlanNumbers (n e : ℕ) (p : FunnelPlan) : Type 0 where
   pub is-maximum : p .maximum ≡ maximum n e
   pub is-alpha : p .alpha ≡ alphaOf e
   pub is-beta : p .beta ≡ betaOf e
@@ -30,10 +27,25 @@ pub record IsPlan (n e : ℕ) (p : FunnelPlan) (cs : List ℕ) : Type 0 where
   -- "Special length s is the largest with .."
   pub special : IsLargest (SpecialLength n e) (p .«special_len»)
   -- "Primary is ceil(s/2), fallback floor(s/2)"
-  pub is-primary : p .«special_primary_len» ≡ (p .«special_len» + 1) / 2
+  pub is-primary : p .«special_primary_len» ≡ p .«special_len» - p .«special_len» / 2
   pub is-fallback : p .«special_fallback_len» ≡ p .«special_len» / 2
   pub is-buckets : p .«fallback_bucket_count» ≡ p .«special_len» / 2 / (2 * loglog n)
-  -- "T = (n-s)/beta buckets fill alpha levels", and the entries past the last level are 0
-  pub is-first : p .«first_bucket_count» ≡ getD cs 0 0
-  pub counts : Counts ((n - p .«special_len») / betaOf e) (alphaOf e) (take (alphaOf e) cs)
-  pub after : drop (alphaOf e) cs ≡ replicate (118 - alphaOf e) 0
+  -- "T = (n-s)/beta buckets"
+  pub is-total : p .«total_buckets» ≡ (n - p .«special_len») / betaOf e
+
+-- the counts of t buckets over the levels, in an array of 118: the entries past the last level are 0
+pub record PlanCounts (t levels first : ℕ) (cs : List ℕ) : Type 0 where
+  pub is-first : first ≡ getD cs 0 0
+  pub counts : Counts t levels (take levels cs)
+  pub after : drop levels cs ≡ replicate (118 - levels) 0
+
+-- p and cs are the plan of n and e: the two are in the domain, "funnel, e below 3" is refused, and every number is right
+pub record IsPlan (n e : ℕ) (p : FunnelPlan) (cs : List ℕ) : Type 0 where
+  pub configured : Configured n e
+  pub exponent : 3 ≤ e
+  pub numbers : PlanNumbers n e p
+  pub levels : PlanCounts (p .«total_buckets») (alphaOf e) (p .«first_bucket_count») cs
+
+-- there is a plan of n and e
+abbrev pub Layout : ℕ → ℕ → Type 0
+Layout n e = (p : FunnelPlan) × (cs : List ℕ) × IsPlan n e p cs

@@ -16,4 +16,10 @@ pub mod WalkLaws
 pub mod Special
 pub mod SpecialLaws
 pub mod PeriodLaws
+pub mod LoglogLaws
+pub mod LengthLaws
+pub mod LevelLaws
 pub mod Funnel
+pub mod FunnelLaws
+pub mod FunnelExist
+pub mod FunnelGate

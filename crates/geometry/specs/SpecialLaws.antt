@@ -14,7 +14,7 @@ twice h k = mul-left-comm k 2 h
 half-more : (h s k : ℕ) → (s + k * (2 * h)) / 2 ≡ s / 2 + k * h
 half-more h s k = let e = twice h k in omega arith
 
-factor-pos : (k m : ℕ) → 0 < k * m → 0 < k
+pub factor-pos : (k m : ℕ) → 0 < k * m → 0 < k
 factor-pos zero m l = absurd (omega (arith, zero-mul m))
 factor-pos (suc k) m l = omega arith
 

@@ -12,6 +12,7 @@ pub struct FunnelPlan {
     pub special_primary_len: u64,
     pub special_fallback_len: u64,
     pub fallback_bucket_count: u64,
+    pub total_buckets: u64,
     pub first_bucket_count: u64,
 }
 
