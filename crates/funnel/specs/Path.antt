@@ -2,10 +2,11 @@
 -- table holds. Assumes nothing.
 use mathlib.Core.List.{List, [], _∷_, _++_}
 use Prim.Native.Nat.{ℕ, zero, suc, _+_, _*_}
-use lib.ListN.{getD}
+use lib.ListN.{take, getD}
 use Rattle.words.specs.declared.place.Place.{Place}
 use Rattle.words.specs.declared.place.Place.the-variants as place
 use Rattle.refusal.specs.declared.RangeRefusal.{RangeRefusal}
+use Rattle.geometry.specs.Counts.{total}
 use Rattle.geometry.specs.declared.funnel.FunnelPlan.{FunnelPlan}
 use Rattle.probe.specs.declared.counter.Domain.{Domain}
 use Rattle.probe.specs.declared.counter.Domain.the-variants as domain
@@ -49,14 +50,9 @@ abbrev pub sampled : Drawn → (ℕ → Path) → Path
 sampled (drawn.Index index words) next = next index
 sampled (drawn.Refused refusal) next = stopped refusal
 
--- how many buckets the first k levels have
-unfoldable pub bucketsBefore : List ℕ → ℕ → ℕ
-bucketsBefore counts zero = 0
-bucketsBefore counts (suc k) = bucketsBefore counts k + getD counts k 0
-
 -- the levels lie side by side from slot 0 on, each bucket beta slots wide; then come the primary slots, then the fallback buckets
 abbrev pub levelStart : FunnelPlan → List ℕ → ℕ → ℕ
-levelStart plan counts level = bucketsBefore counts level * plan .beta
+levelStart plan counts level = total (take level counts) * plan .beta
 
 abbrev pub primaryStart : FunnelPlan → List ℕ → ℕ
 primaryStart plan counts = levelStart plan counts (plan .alpha)

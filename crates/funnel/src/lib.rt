@@ -1,4 +1,5 @@
 // Funnel tables.
 
 pub mod scan;
+pub mod search;
 pub mod table;
