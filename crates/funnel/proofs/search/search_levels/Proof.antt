@@ -52,15 +52,15 @@ enum-known-index : tie.Need-enum-known-index Inv-loop μ-loop
 enum-known-index c = search needs
 
 -- src/search.rt:40:80
-mul-scan : tie.Need-mul-scan Inv-loop μ-loop
-mul-scan c = let d = draw-index _ _ _ _ _ _ _ (level-room (c .before .before .before .before .before .before .before .before .before .pre .0 .planned) _ (c .before .before .before .before .before .loop-test .taken) .some) (sym (c .before .before .before .sample .ensures) ∙ c .before .index .given .1) in
+mul-from : tie.Need-mul-from Inv-loop μ-loop
+mul-from c = let d = draw-index _ _ _ _ _ _ _ (level-room (c .before .before .before .before .before .before .before .before .before .pre .0 .planned) _ (c .before .before .before .before .before .loop-test .taken) .some) (sym (c .before .before .before .sample .ensures) ∙ c .before .index .given .1) in
     let b = bucket-room (c .before .before .before .before .before .before .before .before .before .pre .0 .planned) _ _ (c .before .before .before .before .before .loop-test .taken) (d .below) in
     let f = plan-facts (c .before .before .before .before .before .before .before .before .before .pre .0 .planned) in
     omega arith
 
 -- src/search.rt:40:72
-add-scan : tie.Need-add-scan Inv-loop μ-loop
-add-scan c = let d = draw-index _ _ _ _ _ _ _ (level-room (c .before .before .before .before .before .before .before .before .before .pre .0 .planned) _ (c .before .before .before .before .before .loop-test .taken) .some) (sym (c .before .before .before .sample .ensures) ∙ c .before .index .given .1) in
+add-from : tie.Need-add-from Inv-loop μ-loop
+add-from c = let d = draw-index _ _ _ _ _ _ _ (level-room (c .before .before .before .before .before .before .before .before .before .pre .0 .planned) _ (c .before .before .before .before .before .loop-test .taken) .some) (sym (c .before .before .before .sample .ensures) ∙ c .before .index .given .1) in
     let b = bucket-room (c .before .before .before .before .before .before .before .before .before .pre .0 .planned) _ _ (c .before .before .before .before .before .loop-test .taken) (d .below) in
     let f = plan-facts (c .before .before .before .before .before .before .before .before .before .pre .0 .planned) in
     omega arith
@@ -126,8 +126,8 @@ search-levels-spec =
     enum-known-refusal
     returns
     enum-known-index
-    mul-scan
-    add-scan
+    mul-from
+    add-from
     scan-requires
     enum-known-found
     returns-2
