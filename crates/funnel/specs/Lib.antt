@@ -1,5 +1,8 @@
+pub mod Every
+pub mod FindLaws
 pub mod Insert
 pub mod Path
+pub mod PathLaws
 pub mod PlanLaws
 pub mod Search
 pub mod SearchLaws

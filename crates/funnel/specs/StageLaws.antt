@@ -15,10 +15,11 @@ use Rattle.probe.specs.declared.range.Drawn.the-variants as drawn
 use Rattle.probe.specs.declared.word.FunnelKey.{FunnelKey}
 use Rattle.probe.specs.Counter.{funnelCounterOf}
 use Rattle.probe.specs.Range.{drawOf, funnelDrawOf}
-use Rattle.probe.specs.RangeLaws.{funnel-core}
+use Rattle.probe.specs.RangeLaws.{funnel-core, draw-index}
 use Rattle.funnel.specs.declared.table.Search.{Search}
 use Rattle.funnel.specs.declared.table.Search.the-variants.{Hit, Vacant, Full, Range}
 use Rattle.funnel.specs.Path.{Path, slotOf, run, stopped, join, sampled, bucketFrom, levelStart, levelsFrom, primaryFrom, pairsFrom, fallbackOf, pathOf, primaryStart, fallbackStart}
+use Rattle.funnel.specs.PathLaws.{bucket-length}
 use Rattle.funnel.specs.Search.{searchOf}
 use Rattle.funnel.specs.Valid.{Keyed}
 use Rattle.funnel.specs.SearchLaws.{resume, search-join, search-stopped, search-none, search-vacant, search-hit, search-other, search-full}
@@ -33,11 +34,6 @@ bucket-step level bucket from i w h =
     let e : w - i ≡ suc (w - (i + 1)) = omega arith in
     let f : suc i ≡ i + 1 = omega arith in
     rw (e, f)
-
-pub bucket-length : (level bucket from i w : ℕ) → length (bucketFrom level bucket from i w) ≡ w
-unfolding bucketFrom
-bucket-length level bucket from i zero = refl
-bucket-length level bucket from i (suc w) = ap suc (bucket-length level bucket from (suc i) w)
 
 -- a bucket without the identity and without a vacancy has each of its slots read
 pub bucket-full : (words flags : List ℕ) (identity level bucket from w k j : ℕ) (found : Search)
@@ -81,6 +77,10 @@ pub drew : {seed identity : ℕ} {key : FunnelKey} → Keyed seed identity key �
     → r ≡ drawOf (key .inner) (key .outer) (funnelCounterOf d probe 0) u cap → r ≡ x → funnelDrawOf seed identity d probe u cap ≡ x
 drew {seed} {identity} {key} k d probe u cap r x e h =
     sym (funnel-core seed identity d probe u cap (key .inner) (key .outer) (funnelCounterOf d probe 0) (k .is-inner) (k .is-outer) refl) ∙ sym e ∙ h
+
+-- and an index that it drew is below the number of values
+pub drew-below : (inner outer base u cap : ℕ) {i w : ℕ} {r : Drawn} → 0 < u → r ≡ drawOf inner outer base u cap → r ≡ drawn.Index i w → i < u
+drew-below inner outer base u cap {i} {w} pos e h = draw-index inner outer base u cap i w pos (sym e ∙ h) .below
 
 -- ---- the levels
 

@@ -1,8 +1,7 @@
 use mathlib.Core.Path.{sym, _∙_, refl}
 use native.Mathlib.Omega.{arith}
-use Rattle.probe.specs.RangeLaws.{draw-index}
 use Rattle.funnel.specs.PlanLaws.{part-room}
-use Rattle.funnel.specs.StageLaws.{drew, fallback-refused-a, fallback-refused-b, fallback-both}
+use Rattle.funnel.specs.StageLaws.{drew, drew-below, fallback-refused-a, fallback-refused-b, fallback-both}
 use borrow.Author.Needs.{needs}
 use Rattle.funnel.proofs.search.search_fallback.Statement.{statement}
 use Rattle.funnel.proofs.search.search_fallback.Tie as tie
@@ -38,46 +37,46 @@ enum-known-b c = search needs
 -- src/search.rt:144:40
 mul-at-a : tie.Need-mul-at-a
 mul-at-a c = let p = c .before .before .before .before .before .before .before .before .before .before .pre .0 in
-    let a = draw-index _ _ _ _ _ _ _ (p .fallback) (sym (c .before .before .before .before .before .before .before .sample .ensures) ∙ c .before .before .before .before .before .a .given .1) in
-    let b = draw-index _ _ _ _ _ _ _ (p .fallback) (sym (c .before .before .before .sample2 .ensures) ∙ c .before .b .given .1) in
-    let u = part-room _ _ (c .before .before .before .before .before .before .before .before .before .before .args .table .plan .«fallback_bucket_width») (a .below) in
-    let v = part-room _ _ (c .before .before .before .before .before .before .before .before .before .before .args .table .plan .«fallback_bucket_width») (b .below) in
+    let a = drew-below _ _ _ _ _ (p .fallback) (c .before .before .before .before .before .before .before .sample .ensures) (c .before .before .before .before .before .a .given .1) in
+    let b = drew-below _ _ _ _ _ (p .fallback) (c .before .before .before .sample2 .ensures) (c .before .b .given .1) in
+    let u = part-room _ _ (c .before .before .before .before .before .before .before .before .before .before .args .table .plan .«fallback_bucket_width») a in
+    let v = part-room _ _ (c .before .before .before .before .before .before .before .before .before .before .args .table .plan .«fallback_bucket_width») b in
     omega arith
 
 -- src/search.rt:144:32
 add-at-a : tie.Need-add-at-a
 add-at-a c = let p = c .before .before .before .before .before .before .before .before .before .before .pre .0 in
-    let a = draw-index _ _ _ _ _ _ _ (p .fallback) (sym (c .before .before .before .before .before .before .before .sample .ensures) ∙ c .before .before .before .before .before .a .given .1) in
-    let b = draw-index _ _ _ _ _ _ _ (p .fallback) (sym (c .before .before .before .sample2 .ensures) ∙ c .before .b .given .1) in
-    let u = part-room _ _ (c .before .before .before .before .before .before .before .before .before .before .args .table .plan .«fallback_bucket_width») (a .below) in
-    let v = part-room _ _ (c .before .before .before .before .before .before .before .before .before .before .args .table .plan .«fallback_bucket_width») (b .below) in
+    let a = drew-below _ _ _ _ _ (p .fallback) (c .before .before .before .before .before .before .before .sample .ensures) (c .before .before .before .before .before .a .given .1) in
+    let b = drew-below _ _ _ _ _ (p .fallback) (c .before .before .before .sample2 .ensures) (c .before .b .given .1) in
+    let u = part-room _ _ (c .before .before .before .before .before .before .before .before .before .before .args .table .plan .«fallback_bucket_width») a in
+    let v = part-room _ _ (c .before .before .before .before .before .before .before .before .before .before .args .table .plan .«fallback_bucket_width») b in
     omega arith
 
 -- src/search.rt:145:40
 mul-at-b : tie.Need-mul-at-b
 mul-at-b c = let p = c .before .before .before .before .before .before .before .before .before .before .pre .0 in
-    let a = draw-index _ _ _ _ _ _ _ (p .fallback) (sym (c .before .before .before .before .before .before .before .sample .ensures) ∙ c .before .before .before .before .before .a .given .1) in
-    let b = draw-index _ _ _ _ _ _ _ (p .fallback) (sym (c .before .before .before .sample2 .ensures) ∙ c .before .b .given .1) in
-    let u = part-room _ _ (c .before .before .before .before .before .before .before .before .before .before .args .table .plan .«fallback_bucket_width») (a .below) in
-    let v = part-room _ _ (c .before .before .before .before .before .before .before .before .before .before .args .table .plan .«fallback_bucket_width») (b .below) in
+    let a = drew-below _ _ _ _ _ (p .fallback) (c .before .before .before .before .before .before .before .sample .ensures) (c .before .before .before .before .before .a .given .1) in
+    let b = drew-below _ _ _ _ _ (p .fallback) (c .before .before .before .sample2 .ensures) (c .before .b .given .1) in
+    let u = part-room _ _ (c .before .before .before .before .before .before .before .before .before .before .args .table .plan .«fallback_bucket_width») a in
+    let v = part-room _ _ (c .before .before .before .before .before .before .before .before .before .before .args .table .plan .«fallback_bucket_width») b in
     omega arith
 
 -- src/search.rt:145:32
 add-at-b : tie.Need-add-at-b
 add-at-b c = let p = c .before .before .before .before .before .before .before .before .before .before .pre .0 in
-    let a = draw-index _ _ _ _ _ _ _ (p .fallback) (sym (c .before .before .before .before .before .before .before .sample .ensures) ∙ c .before .before .before .before .before .a .given .1) in
-    let b = draw-index _ _ _ _ _ _ _ (p .fallback) (sym (c .before .before .before .sample2 .ensures) ∙ c .before .b .given .1) in
-    let u = part-room _ _ (c .before .before .before .before .before .before .before .before .before .before .args .table .plan .«fallback_bucket_width») (a .below) in
-    let v = part-room _ _ (c .before .before .before .before .before .before .before .before .before .before .args .table .plan .«fallback_bucket_width») (b .below) in
+    let a = drew-below _ _ _ _ _ (p .fallback) (c .before .before .before .before .before .before .before .sample .ensures) (c .before .before .before .before .before .a .given .1) in
+    let b = drew-below _ _ _ _ _ (p .fallback) (c .before .before .before .sample2 .ensures) (c .before .b .given .1) in
+    let u = part-room _ _ (c .before .before .before .before .before .before .before .before .before .before .args .table .plan .«fallback_bucket_width») a in
+    let v = part-room _ _ (c .before .before .before .before .before .before .before .before .before .before .args .table .plan .«fallback_bucket_width») b in
     omega arith
 
 -- src/search.rt:146:21
 scan-pairs-requires : tie.Need-scan-pairs-requires
 scan-pairs-requires c κs = let p = c .before .before .before .before .before .before .before .before .before .before .pre .0 in
-    let a = draw-index _ _ _ _ _ _ _ (p .fallback) (sym (c .before .before .before .before .before .before .before .sample .ensures) ∙ c .before .before .before .before .before .a .given .1) in
-    let b = draw-index _ _ _ _ _ _ _ (p .fallback) (sym (c .before .before .before .sample2 .ensures) ∙ c .before .b .given .1) in
-    let u = part-room _ _ (c .before .before .before .before .before .before .before .before .before .before .args .table .plan .«fallback_bucket_width») (a .below) in
-    let v = part-room _ _ (c .before .before .before .before .before .before .before .before .before .before .args .table .plan .«fallback_bucket_width») (b .below) in
+    let a = drew-below _ _ _ _ _ (p .fallback) (c .before .before .before .before .before .before .before .sample .ensures) (c .before .before .before .before .before .a .given .1) in
+    let b = drew-below _ _ _ _ _ (p .fallback) (c .before .before .before .sample2 .ensures) (c .before .b .given .1) in
+    let u = part-room _ _ (c .before .before .before .before .before .before .before .before .before .before .args .table .plan .«fallback_bucket_width») a in
+    let v = part-room _ _ (c .before .before .before .before .before .before .before .before .before .before .args .table .plan .«fallback_bucket_width») b in
     omega arith
 
 -- src/search.rt:123:1

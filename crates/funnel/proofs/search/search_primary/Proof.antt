@@ -2,9 +2,8 @@ use Prim.Native.Nat.{_+_, _*_, _-_, _≤_}
 use mathlib.Core.Path.{_≡_, sym, _∙_, ap, refl}
 use native.Mathlib.Omega.{arith}
 use borrow.Author.Needs.{needs}
-use Rattle.probe.specs.RangeLaws.{draw-index}
 use Rattle.funnel.specs.SearchLaws.{resume}
-use Rattle.funnel.specs.StageLaws.{drew, read-full, PrimaryLeft, primary-none, primary-refused, primary-found, primary-end}
+use Rattle.funnel.specs.StageLaws.{drew, drew-below, read-full, PrimaryLeft, primary-none, primary-refused, primary-found, primary-end}
 use Rattle.funnel.proofs.Stays.{stays}
 use Rattle.funnel.proofs.search.search_primary.Statement.{statement}
 use Rattle.funnel.proofs.search.search_primary.Tie as tie
@@ -42,13 +41,13 @@ enum-known-index c = search needs
 -- src/search.rt:105:26
 add-at : tie.Need-add-at Inv-loop μ-loop
 add-at c = let p = c .before .before .before .before .before .before .before .before .pre .0 in
-    let d = draw-index _ _ _ _ _ _ _ (p .primary) (sym (c .before .before .before .sample .ensures) ∙ c .before .index .given .1) in
+    let d = drew-below _ _ _ _ _ (p .primary) (c .before .before .before .sample .ensures) (c .before .index .given .1) in
     omega arith
 
 -- src/search.rt:110:21
 read-requires : tie.Need-read-requires Inv-loop μ-loop
 read-requires c κs = let p = c .before .before .before .before .before .before .before .before .pre .0 in
-    let d = draw-index _ _ _ _ _ _ _ (p .primary) (sym (c .before .before .before .sample .ensures) ∙ c .before .index .given .1) in
+    let d = drew-below _ _ _ _ _ (p .primary) (c .before .before .before .sample .ensures) (c .before .index .given .1) in
     (refl, omega arith, omega arith, omega arith)
 
 -- src/search.rt:111:44
