@@ -1,4 +1,5 @@
 pub mod Every
+pub mod EveryLaws
 pub mod FindLaws
 pub mod Insert
 pub mod Path
