@@ -1,10 +1,10 @@
 -- The layout of an elastic table: the lengths of its levels and the quotas of its batches. Assumes nothing.
 use mathlib.Core.List.{List, [], _∷_}
-use Prim.Native.Nat.{ℕ, zero, suc, _+_, _-_, _*_, _/_, _^_, min}
+use Prim.Native.Nat.{ℕ, zero, suc, _+_, _-_, _*_, _/_, _^_, _≤_, _<_, min}
 use lib.ListN.{getD, take}
-use lib.Dec.{eqb}
+use lib.Dec.{eqb, ltb}
 use mathlib.Core.Bool.{Bool, true, false}
-use Rattle.words.specs.Log.{ceilLog2}
+use Rattle.words.specs.Log.{ceilLog2, pickNat}
 use Rattle.refusal.specs.Table.{nameOf, Report, answered, refused}
 use Rattle.geometry.specs.declared.config.Gated.{Gated}
 use Rattle.geometry.specs.declared.config.Gated.the-variants.{Passed, Refused}
@@ -65,6 +65,24 @@ cut left (q ∷ qs) = min q left ∷ cut (left - min q left) qs
 unfoldable pub quotasOf : (n e : ℕ) → List ℕ
 quotasOf n e = cut (maximum n e) (uncutQuotas e (lengthsOf n))
 
+-- the sum of a list
+unfoldable pub total : List ℕ → ℕ
+total [] = 0
+total (x ∷ xs) = x + total xs
+
+-- "the batch is the first whose quota prefix exceeds the count": the batches from batch b on, with so many of the count left to them
+unfoldable pub batchFrom : (b count : ℕ) → List ℕ → ℕ
+batchFrom b count [] = b
+batchFrom b count (q ∷ qs) = pickNat (ltb count q) b (batchFrom (b + 1) (count - q) qs)
+
+unfoldable pub batchOf : (n e count : ℕ) → ℕ
+batchOf n e count = batchFrom 0 count (quotasOf n e)
+
+-- the same as a property
+pub record IsBatch (qs : List ℕ) (count b : ℕ) : Type 0 where
+  pub exceeds : count < total (take (suc b) qs)
+  pub first : (j : ℕ) → j < b → total (take (suc j) qs) ≤ count
+
 -- a list in an array of k entries, zeros behind it
 unfoldable pub padded : ℕ → List ℕ → List ℕ
 padded zero xs = []
@@ -74,11 +92,6 @@ padded (suc k) (x ∷ xs) = x ∷ padded k xs
 abbrev pub both : Bool → Bool → Bool
 both true b = b
 both false b = false
-
--- the sum of a list
-unfoldable pub total : List ℕ → ℕ
-total [] = 0
-total (x ∷ xs) = x + total xs
 
 -- the length of a level and the first slot of it
 abbrev pub lengthAt : (n level : ℕ) → ℕ

@@ -3,14 +3,22 @@ use mathlib.Core.Path.{_≡_, refl, ap, sym, _∙_}
 use mathlib.Core.List.{List, [], _∷_, _++_}
 use Prim.Native.Nat.{ℕ, zero, suc, _+_, _-_, _*_, _/_, _^_, _≤_, _<_, min}
 use native.Mathlib.Omega.{arith}
-use native.Mathlib.Nat.{pow-suc, pow-zero, div-div-eq-div-mul, div-le-self, le-div-iff-mul-le, lt-of-not-le, mul-le-mul-left, mul-div-le, mul-comm, add-mul, zero-div}
+use native.Mathlib.Nat.{pow-suc, pow-zero, div-div-eq-div-mul, div-le-self, le-div-iff-mul-le, lt-of-not-le, mul-le-mul-left, mul-div-le, mul-comm, add-mul, zero-div, div-lt-iff-lt-mul}
 use lib.ListN.{length, getD, take, drop}
 use lib.Pow.{pow-pos, pow-mono}
 use lib.Count.{leadingZeros}
-use Rattle.words.specs.Log.{ceilLog2, firstFrom, CeilLog2}
+use Rattle.words.specs.Log.{ceilLog2, firstFrom, CeilLog2, pickNat}
 use Rattle.words.specs.LogLaws.{log-leading, log-computed}
-use Rattle.geometry.specs.Config.{Configured, maximum}
-use Rattle.geometry.specs.Elastic.{levelLength, split, levelsOf, lengthsOf, ceilThreeQuarters, nextLength, nextQuota, laterQuotas, uncutQuotas, cut, quotasOf, padded, total, lengthAt, offsetAt}
+use Rattle.geometry.specs.Config.{Configured, configGate, maximum}
+use mathlib.Core.Bool.{Bool, true, false}
+use lib.Dec.{eqb, ltb}
+use borrow.Author.Tests.{eq-eqb, ne-eqb, eqb-true, eqb-false, lt-ltb, le-ltb, ltb-true, ltb-false}
+use Rattle.refusal.specs.declared.Gate.{Gate}
+use Rattle.geometry.specs.declared.config.Gated.{Gated}
+use Rattle.geometry.specs.declared.config.Gated.the-variants.{Passed, Refused}
+use Rattle.geometry.specs.declared.elastic.ElasticPlanned.the-variants as planned
+use Rattle.geometry.specs.declared.elastic.ElasticPlan.{ElasticPlan}
+use Rattle.geometry.specs.Elastic.{isPlanOf, planOf, both, batchFrom, batchOf, IsBatch, laid, layBy, elasticPlanOf, levelLength, split, levelsOf, lengthsOf, ceilThreeQuarters, nextLength, nextQuota, laterQuotas, uncutQuotas, cut, quotasOf, padded, total, lengthAt, offsetAt}
 
 -- ---- examples: the table of 8 slots at e 1, and the smallest
 
@@ -136,6 +144,18 @@ module _ (n e : ℕ) (s : Configured n e) where
         go zero r p = p
         go (suc m) r p = omega arith
 
+    pub length-small : lengthAt n k < 4294967296
+    unfolding levelLength
+    length-small = rw length-at (go (levelsOf n - 1 - k) refl)
+      where
+        go : (m : ℕ) → levelsOf n - 1 - k ≡ m → levelLength m (n / 2 ^ k) < 4294967296
+        go zero q =
+            let f = levels-facts n e s in
+            let d : k ≡ levelsOf n - 1 = omega arith in
+            let l : n / 2 ^ (levelsOf n - 1) < 4294967296 = div-lt-iff-lt-mul (pow-pos (levelsOf n - 1)) .1 (omega (arith, f .last-to, pow-pos (levelsOf n - 1))) in
+            rw d l
+        go (suc m) q = omega (arith, rest-most, rest-pos)
+
     pub level-within : offsetAt n k + lengthAt n k ≤ n
     level-within = rw (offset-at, length-at) (omega (arith, rest-most, level-most (levelsOf n - 1 - k) (n / 2 ^ k)))
 
@@ -157,7 +177,7 @@ div-sum a b d p =
     let m = add-mul (a / d) (b / d) d in
     le-div-iff-mul-le p .1 (omega (arith, mul-div-le a d, mul-div-le b d, mul-comm d (a / d), mul-comm d (b / d)))
 
-reserve-quarter : (e x : ℕ) → 0 < e → x / 2 ^ (e + 1) ≤ x / 4
+pub reserve-quarter : (e x : ℕ) → 0 < e → x / 2 ^ (e + 1) ≤ x / 4
 reserve-quarter e x h = div-smaller x 4 (2 ^ (e + 1)) (omega arith) (let l : 2 ≤ e + 1 = omega arith in let p = pow-mono l in omega arith)
 
 chain-step : (r l h u v w c d t : ℕ) → l + h ≡ r → u + v ≤ w → c + u ≤ l → h - v ≤ d + t → r - w ≤ c + (l - u - c + d + t)
@@ -191,11 +211,26 @@ quotas-total n e s = cut-total (maximum n e) (uncutQuotas e (lengthsOf n)) ∙ o
         let c = quotas-chain e k n (s .some) (omega (arith, pow-pos k)) in
         omega (arith, fine)
 
+cut-length : (left : ℕ) (qs : List ℕ) → length (cut left qs) ≡ length qs
+unfolding cut
+cut-length left [] = refl
+cut-length left (q ∷ qs) = ap suc (cut-length (left - min q left) qs)
+
+later-length : (e before : ℕ) (ls : List ℕ) → length (laterQuotas e before ls) ≡ length ls
+unfolding laterQuotas
+later-length e before [] = refl
+later-length e before (l ∷ ls) = ap suc (later-length e l ls)
+
 -- the first quota is a later one after a level of no slots
 pub uncut-later : (e : ℕ) (ls : List ℕ) → uncutQuotas e ls ≡ laterQuotas e 0 ls
 unfolding uncutQuotas laterQuotas
 uncut-later e [] = refl
 uncut-later e (l ∷ ls) = let z : 0 / 2 ^ (e + 1) ≡ 0 = zero-div (2 ^ (e + 1)) in rw z (ap (λ (q : ℕ). q ∷ laterQuotas e l ls) (omega arith))
+
+-- a quota for each level
+pub quotas-length : (n e : ℕ) → length (quotasOf n e) ≡ levelsOf n
+unfolding quotasOf lengthsOf
+quotas-length n e = cut-length _ (uncutQuotas e (split (levelsOf n) n)) ∙ ap length (uncut-later e (split (levelsOf n) n)) ∙ later-length e 0 (split (levelsOf n) n) ∙ split-length (levelsOf n) n
 
 -- ---- prefix sums
 
@@ -265,3 +300,110 @@ pub next-quota-most : (left e before new spare : ℕ) → nextQuota left e befor
 unfolding nextQuota
 next-quota-most zero e before new spare = omega arith
 next-quota-most (suc left) e before new spare = omega arith
+
+pub next-length-none : (left rest : ℕ) → left ≤ 0 → 0 ≡ nextLength left rest
+unfolding nextLength
+next-length-none zero rest h = refl
+next-length-none (suc left) rest h = absurd (omega arith)
+
+pub next-length-last : (left rest : ℕ) → left ≡ 1 → rest ≡ nextLength left rest
+unfolding nextLength levelLength
+next-length-last left rest h = rw h
+
+pub next-length-half : (left rest : ℕ) → 1 < left → rest - rest / 2 ≡ nextLength left rest
+unfolding nextLength levelLength
+next-length-half zero rest h = absurd (omega arith)
+next-length-half (suc zero) rest h = absurd (omega arith)
+next-length-half (suc (suc left)) rest h = refl
+
+pub next-quota-none : (left e before new spare : ℕ) → left ≤ 0 → 0 ≡ nextQuota left e before new spare
+unfolding nextQuota
+next-quota-none zero e before new spare h = refl
+next-quota-none (suc left) e before new spare h = absurd (omega arith)
+
+pub next-quota-some : (left e before new spare : ℕ) {u c d r : ℕ} → 0 < left → u ≡ before / 2 ^ (e + 1) → c ≡ ceilThreeQuarters before → d ≡ ceilThreeQuarters new
+    → r ≡ min (before - u - c + d) spare → r ≡ nextQuota left e before new spare
+unfolding nextQuota
+next-quota-some zero e before new spare h a b g q = absurd (omega arith)
+next-quota-some (suc left) e before new spare h a b g q = rw (← a, ← b, ← g) q
+
+-- the length of a level, by what remains
+pub level-half : (after rest r : ℕ) → r ≡ rest → 0 < after → r - r / 2 ≡ levelLength after rest
+unfolding levelLength
+level-half zero rest r e h = absurd (omega arith)
+level-half (suc after) rest r e h = rw e
+
+pub level-rest : (after rest r : ℕ) → r ≡ rest → after ≤ 0 → r ≡ levelLength after rest
+unfolding levelLength
+level-rest zero rest r e h = e
+level-rest (suc after) rest r e h = absurd (omega arith)
+
+-- ---- the plan test
+
+module _ (n e : ℕ) (p : ElasticPlan) {k : ℕ} (is : k ≡ levelsOf n) where
+  pub plan-other-levels : (p .levels ≡ k → ⊥) → false ≡ isPlanOf n e p
+  unfolding isPlanOf
+  plan-other-levels h = rw (ne-eqb (p .levels) (levelsOf n) (λ q. h (q ∙ sym is)))
+
+  pub plan-same-levels : p .levels ≡ k → {m : ℕ} → m ≡ maximum n e → eqb (p .maximum) m ≡ isPlanOf n e p
+  unfolding isPlanOf
+  plan-same-levels h q = rw (eq-eqb (p .levels) (levelsOf n) (h ∙ is), q)
+
+-- ---- the plan
+
+module _ (n e : ℕ) (ls qs : List ℕ) where
+  pub lay-refused : (g : Gate) → configGate n e ≡ Refused g → laid (planned.Refused g) ls qs ≡ elasticPlanOf n e ls qs
+  unfolding elasticPlanOf layBy
+  lay-refused g h = rw h
+
+  pub lay-plan : (levels most : ℕ) (ls' qs' : List ℕ) → configGate n e ≡ Passed → levels ≡ levelsOf n → most ≡ maximum n e
+      → ls' ≡ padded 32 (split levels n) → qs' ≡ padded 32 (cut most (laterQuotas e 0 (split levels n)))
+      → laid (planned.Plan (record { levels = levels; maximum = most })) ls' qs' ≡ elasticPlanOf n e ls qs
+  unfolding elasticPlanOf layBy lengthsOf quotasOf
+  lay-plan levels most ls' qs' h a b f g = rw (h, f, g, a, b, uncut-later e (split (levelsOf n) n))
+
+-- what the test says of a plan
+pub plan-facts : (n e : ℕ) (p : ElasticPlan) → isPlanOf n e p ≡ true → (p .levels ≡ levelsOf n) × (p .maximum ≡ maximum n e)
+unfolding isPlanOf
+plan-facts n e p h = go (eqb (p .levels) (levelsOf n)) refl (eqb (p .maximum) (maximum n e)) refl h
+  where
+    go : (x : Bool) → eqb (p .levels) (levelsOf n) ≡ x → (y : Bool) → eqb (p .maximum) (maximum n e) ≡ y → both x y ≡ true → (p .levels ≡ levelsOf n) × (p .maximum ≡ maximum n e)
+    go true a true b k = (eqb-true _ _ a, eqb-true _ _ b)
+    go true a false b k = let z : _≡_ {A = ℕ} 0 1 = cc in absurd (omega arith)
+    go false a y b k = let z : _≡_ {A = ℕ} 0 1 = cc in absurd (omega arith)
+
+-- ---- batches
+
+module _ (b count q : ℕ) (qs : List ℕ) where
+  pub batch-here : count < q → batchFrom b count (q ∷ qs) ≡ b
+  unfolding batchFrom
+  batch-here h = rw (lt-ltb count q h)
+
+  pub batch-later : q ≤ count → batchFrom b count (q ∷ qs) ≡ batchFrom (b + 1) (count - q) qs
+  unfolding batchFrom
+  batch-later h = rw (le-ltb count q h)
+
+-- with a count below the sum of the quotas there is such a batch
+batch-found : (b count : ℕ) (qs : List ℕ) → count < total qs → (k : ℕ) × (batchFrom b count qs ≡ b + k) × (k < length qs) × IsBatch qs count k
+unfolding batchFrom total
+batch-found b count [] h = absurd (omega arith)
+batch-found b count (q ∷ qs) h = go (ltb count q) refl (λ l. batch-found (b + 1) (count - q) qs (omega (arith, l)))
+  where
+    go : (x : Bool) → ltb count q ≡ x → (q ≤ count → (k : ℕ) × (batchFrom (b + 1) (count - q) qs ≡ b + 1 + k) × (k < length qs) × IsBatch qs (count - q) k)
+        → (k : ℕ) × (pickNat x b (batchFrom (b + 1) (count - q) qs) ≡ b + k) × (k < suc (length qs)) × IsBatch (q ∷ qs) count k
+    go true e r = let l = ltb-true count q e in (0, omega arith, omega arith, record { exceeds = omega arith; first = λ j g. absurd (omega arith) })
+    go false e r =
+        let l = ltb-false count q e in
+        let i = r l in
+        (suc (i .0), omega (arith, i .1), omega (arith, i .2), record { exceeds = let x = i .3 .exceeds in omega arith; first = λ j g. before j g })
+      where
+        before : (j : ℕ) → j < suc (r (ltb-false count q e) .0) → total (take (suc j) (q ∷ qs)) ≤ count
+        before zero g = let l = ltb-false count q e in omega arith
+        before (suc j) g = let l = ltb-false count q e in let f = r l .3 .first j (omega arith) in omega arith
+
+pub batch-is : (n e : ℕ) → Configured n e → (count : ℕ) → count < maximum n e → IsBatch (quotasOf n e) count (batchOf n e count) × (batchOf n e count < levelsOf n)
+unfolding batchOf
+batch-is n e s count h =
+    let f = batch-found 0 count (quotasOf n e) (omega (arith, quotas-total n e s)) in
+    let same : batchFrom 0 count (quotasOf n e) ≡ f .0 = omega (arith, f .1) in
+    (rw same (f .3), omega (arith, same, f .2, quotas-length n e))

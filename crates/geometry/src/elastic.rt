@@ -7,7 +7,7 @@ ghost use mathlib.Core.Path.{_≡_};
 ghost use Prim.Native.Nat.{ℕ, _+_, _-_, _*_, _/_, _^_, _<_, _≤_, min};
 ghost use lib.ListN.{length};
 ghost use Rattle.geometry.specs.Config.{Configured};
-ghost use Rattle.geometry.specs.Elastic.{levelLength, split, cut, ceilThreeQuarters, laterQuotas, nextLength, nextQuota, lengthsOf, quotasOf, levelsOf, padded, laid, elasticPlanOf, isPlanOf};
+ghost use Rattle.geometry.specs.Elastic.{batchFrom, levelLength, split, cut, ceilThreeQuarters, laterQuotas, nextLength, nextQuota, lengthsOf, quotasOf, levelsOf, padded, laid, elasticPlanOf, isPlanOf};
 use crate::config::Gated;
 use crate::config::config_gate;
 use crate::config::max_insertions;
@@ -71,6 +71,32 @@ pub fn level_length(n: u64, last: u64, level: u64) -> u64
 {
     let rest = floor_div_pow2(n, level);
     if level < last { rest - rest / 2 } else { rest }
+}
+
+// The first batch whose quota prefix exceeds the count; the number of levels where none does.
+pub fn active_batch(n: u64, e: u32, plan: ElasticPlan, count: u64) -> u64
+    requires { ⌜ (n ≤ 4294967296) × (0 < e) ⌝ }
+    ensures { λ r. ⌜ r ≡ batchFrom 0 count (cut (plan .maximum) (laterQuotas e 0 (split (plan .levels) n))) ⌝ }
+{
+    let levels = plan.levels;
+    let mut rest = n;
+    let mut before = 0;
+    let mut spare = plan.maximum;
+    let mut left = count;
+    let mut i = 0;
+    while i < levels {
+        let length = next_length(levels, i, rest);
+        let quota = next_quota(levels, i, e, before, length, spare);
+        if left < quota {
+            return i;
+        }
+        left -= quota;
+        rest -= length;
+        spare -= quota;
+        before = length;
+        i += 1;
+    }
+    i
 }
 
 // Both lists, entry by entry.

@@ -1,19 +1,17 @@
+-- `geometry::elastic::level_offset` meets its contract. Assumes nothing.
+use native.Mathlib.Omega.{arith}
+use native.Mathlib.Nat.{div-le-self}
+use Prim.Native.Nat.{_^_}
 use borrow.Author.Needs.{needs}
 use Rattle.geometry.proofs.elastic.level_offset.Statement.{statement}
 use Rattle.geometry.proofs.elastic.level_offset.Tie as tie
-use Rattle.geometry.proofs.elastic.level_offset.Reads as reads
-use Rattle.geometry.proofs.elastic.level_offset.Lts as lts
-use Rattle.words.proofs.power.floor_div_pow2.Reads as floor-div-pow2-reads
 
--- src/elastic.rt:65:9
 floor-div-pow2-requires : tie.Need-floor-div-pow2-requires
 floor-div-pow2-requires c κs = search needs
 
--- src/elastic.rt:65:5
 sub-result : tie.Need-sub-result
-sub-result c = ?
+sub-result c = omega (arith, c .floor-div-pow2 .ensures, div-le-self (c .before .args .n) (2 ^ c .before .args .level))
 
--- src/elastic.rt:62:1
 returns : tie.Need-returns
 returns c = search needs
 
