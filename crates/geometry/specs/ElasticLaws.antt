@@ -289,6 +289,15 @@ unfolding padded split nextLength nextQuota laterQuotas cut
 padded-quota-step k zero e before rest spare = refl
 padded-quota-step k (suc left) e before rest spare = let s : suc left - 1 ≡ left = omega arith in rw s
 
+-- one batch more, as a loop makes it
+pub quota-step : (left e before rest spare : ℕ) → 0 < left
+    → cut spare (laterQuotas e before (split left rest))
+    ≡ nextQuota left e before (nextLength left rest) spare
+    ∷ cut (spare - nextQuota left e before (nextLength left rest) spare) (laterQuotas e (nextLength left rest) (split (left - 1) (rest - nextLength left rest)))
+unfolding split nextLength nextQuota laterQuotas cut
+quota-step zero e before rest spare h = absurd (omega arith)
+quota-step (suc left) e before rest spare h = let s : suc left - 1 ≡ left = omega arith in rw s
+
 -- ---- the numbers of the next level
 
 pub next-length-most : (left rest : ℕ) → nextLength left rest ≤ rest
@@ -300,6 +309,13 @@ pub next-quota-most : (left e before new spare : ℕ) → nextQuota left e befor
 unfolding nextQuota
 next-quota-most zero e before new spare = omega arith
 next-quota-most (suc left) e before new spare = omega arith
+
+-- the same of a number that equals it
+pub length-fits : (left rest l : ℕ) → l ≡ nextLength left rest → l ≤ rest
+length-fits left rest l e = rw e (next-length-most left rest)
+
+pub quota-fits : (left e before new spare q : ℕ) → q ≡ nextQuota left e before new spare → q ≤ spare
+quota-fits left e before new spare q h = rw h (next-quota-most left e before new spare)
 
 pub next-length-none : (left rest : ℕ) → left ≤ 0 → 0 ≡ nextLength left rest
 unfolding nextLength

@@ -8,7 +8,7 @@ use borrow.Author.Needs.{needs}
 use lib.ListN.{length, take, set, length-set}
 use lib.Seq.{take-suc-set, take-all, append-snoc}
 use Rattle.geometry.specs.Elastic.{split, cut, laterQuotas, nextLength, nextQuota, padded}
-use Rattle.geometry.specs.ElasticLaws.{padded-length-step, padded-quota-step, next-length-most, next-quota-most}
+use Rattle.geometry.specs.ElasticLaws.{padded-length-step, padded-quota-step, next-length-most, length-fits, quota-fits}
 use Rattle.geometry.proofs.elastic.fill.Statement.{statement}
 use Rattle.geometry.proofs.elastic.fill.Tie as tie
 
@@ -79,7 +79,8 @@ next-length-requires c κs = search needs
 next-quota-requires : tie.Need-next-quota-requires Inv-loop μ-loop
 next-quota-requires c κs =
     let f = c .before .before .loop .inv in
-    (c .before .before .before .before .before .pre .1, f .before-most, omega (arith, c .next-length .ensures, next-length-most (c .before .before .before .before .before .args .levels - c .before .before .loop .i) (c .before .before .loop .rest), f .rest-most))
+    let m = length-fits _ _ _ (c .next-length .ensures) in
+    (c .before .before .before .before .before .pre .1, f .before-most, omega (arith, f .rest-most))
 
 mul-lengths : tie.Need-mul-lengths Inv-loop μ-loop
 mul-lengths c = omega arith
@@ -94,13 +95,10 @@ slice-write-quotas : tie.Need-slice-write-quotas Inv-loop μ-loop
 slice-write-quotas c = omega arith
 
 sub-rest : tie.Need-sub-rest Inv-loop μ-loop
-sub-rest c = omega (arith, c .before .next-length .ensures, next-length-most (c .before .before .before .before .before .before .args .levels - c .before .before .before .loop .i) (c .before .before .before .loop .rest))
+sub-rest c = length-fits _ _ _ (c .before .next-length .ensures)
 
 sub-spare : tie.Need-sub-spare Inv-loop μ-loop
-sub-spare c =
-    let a = c .before .before .before .before .before .before .args in
-    let l = c .before .before .before .loop in
-    omega (arith, c .next-quota .ensures, next-quota-most (a .levels - l .i) (a .e) (l .before) (c .before .next-length .result) (l .spare))
+sub-spare c = quota-fits _ _ _ _ _ _ (c .next-quota .ensures)
 
 add-i : tie.Need-add-i Inv-loop μ-loop
 add-i c = omega arith
