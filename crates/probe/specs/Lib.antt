@@ -1,0 +1,10 @@
+pub mod Pick
+pub mod Mix
+pub mod MixLaws
+pub mod Counter
+pub mod CounterLaws
+pub mod Word
+pub mod WordLaws
+pub mod Range
+pub mod RangeLaws
+pub mod Uniform
