@@ -14,6 +14,7 @@ use refusal::Gate;
 use text::field::OneWord;
 use text::field::decimal;
 use text::field::field_end;
+use text::line::Gathered;
 use text::line::gather;
 use text::out::flush;
 use text::out::put;
@@ -58,38 +59,49 @@ fn main() {
 
 // The last line may lack its newline.
 fn finish(line: &[u8], out: &mut [u8], now: Progress) {
-    let mut at = now.at;
     if 0 < now.length {
-        at = answer(line, now.length, out, at);
+        let at = answer(line, now.length, out, now.at);
+        flush(out, at);
+        return;
     }
-    flush(out, at);
+    flush(out, now.at);
 }
 
 // Takes a part of the input, and answers each line that ends in it.
-fn take(part: &[u8], line: &mut [u8], out: &mut [u8], now: Progress) -> Progress {
-    let mut length = now.length;
-    let mut at = now.at;
+fn take(part: &[u8], line: &mut [u8], out: &mut [u8], before: Progress) -> Progress {
+    let mut now = before;
     let mut from = 0;
     while from < part.len() {
-        let got = gather(part, from, line, length);
+        let got = gather(part, from, line, now.length);
         from = got.next;
-        length = got.length;
-        if got.ended {
-            at = answer(line, length, out, at);
-            length = 0;
-        }
+        now = settle(line, out, got, now.at);
     }
-    Progress { length, at }
+    now
+}
+
+// Answers a line that ended.
+fn settle(line: &[u8], out: &mut [u8], got: Gathered, at: usize) -> Progress {
+    if got.ended {
+        return Progress {
+            length: 0,
+            at: answer(line, got.length, out, at),
+        };
+    }
+    Progress {
+        length: got.length,
+        at,
+    }
 }
 
 // The answer to a line of a length, with its newline.
 fn answer(line: &[u8], length: usize, out: &mut [u8], at: usize) -> usize {
-    let mut to = at;
-    if length <= LONGEST && length <= line.len() {
-        to = answer_query(query(&line[..length]), out, to);
-    } else {
-        to = put_byte(out, to, b'?');
+    if LONGEST < length {
+        return put(out, at, b"?\n");
     }
+    if line.len() < length {
+        return put(out, at, b"?\n");
+    }
+    let to = answer_query(query(&line[..length]), out, at);
     put_byte(out, to, b'\n')
 }
 
@@ -161,9 +173,14 @@ fn elastic(n: u64, e: u32, out: &mut [u8], at: usize) -> usize {
         ElasticPlanned::Refused(gate) => put_refusal(gate, out, at),
         ElasticPlanned::Plan(plan) => {
             let to = put_field(out, at, plan.maximum);
-            put_pairs(out, to, plan.levels, &lengths, &quotas)
+            put_levels(plan.levels, &lengths, &quotas, out, to)
         }
     }
+}
+
+// length:quota for each level.
+fn put_levels(levels: u64, lengths: &[u64; 32], quotas: &[u64; 32], out: &mut [u8], at: usize) -> usize {
+    put_pairs(out, at, levels, lengths, quotas)
 }
 
 fn funnel(n: u64, e: u32, out: &mut [u8], at: usize) -> usize {

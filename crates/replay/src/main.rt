@@ -13,8 +13,10 @@ mod probes;
 use text::field::field_after;
 use text::field::field_end;
 use text::field::is_word;
+use text::line::Gathered;
 use text::line::gather;
 use text::out::flush;
+use text::out::put;
 use text::out::put_byte;
 
 // The longest line; its buffer holds one byte more, which tells a longer one.
@@ -47,38 +49,49 @@ fn main() {
 
 // The last line may lack its newline.
 fn finish(line: &[u8], out: &mut [u8], now: Progress) {
-    let mut at = now.at;
     if 0 < now.length {
-        at = answer(line, now.length, out, at);
+        let at = answer(line, now.length, out, now.at);
+        flush(out, at);
+        return;
     }
-    flush(out, at);
+    flush(out, now.at);
 }
 
 // Takes a part of the input, and answers each line that ends in it.
-fn take(part: &[u8], line: &mut [u8], out: &mut [u8], now: Progress) -> Progress {
-    let mut length = now.length;
-    let mut at = now.at;
+fn take(part: &[u8], line: &mut [u8], out: &mut [u8], before: Progress) -> Progress {
+    let mut now = before;
     let mut from = 0;
     while from < part.len() {
-        let got = gather(part, from, line, length);
+        let got = gather(part, from, line, now.length);
         from = got.next;
-        length = got.length;
-        if got.ended {
-            at = answer(line, length, out, at);
-            length = 0;
-        }
+        now = settle(line, out, got, now.at);
     }
-    Progress { length, at }
+    now
+}
+
+// Answers a line that ended.
+fn settle(line: &[u8], out: &mut [u8], got: Gathered, at: usize) -> Progress {
+    if got.ended {
+        return Progress {
+            length: 0,
+            at: answer(line, got.length, out, at),
+        };
+    }
+    Progress {
+        length: got.length,
+        at,
+    }
 }
 
 // The answer to a line of a length, with its newline.
 fn answer(line: &[u8], length: usize, out: &mut [u8], at: usize) -> usize {
-    let mut to = at;
     if LONGEST < length {
-        to = put_byte(out, to, b'L');
-    } else if length <= line.len() {
-        to = command(&line[..length], out, to);
+        return put(out, at, b"L\n");
     }
+    if line.len() < length {
+        return put(out, at, b"L\n");
+    }
+    let to = command(&line[..length], out, at);
     put_byte(out, to, b'\n')
 }
 
@@ -88,9 +101,6 @@ fn command(line: &[u8], out: &mut [u8], at: usize) -> usize {
     let args = field_after(line, end);
     if is_word(line, 0, end, b"EL") {
         return layouts::elastic(line, args, out, at);
-    }
-    if is_word(line, 0, end, b"FL") {
-        return layouts::funnel(line, args, out, at);
     }
     probes::command(line, end, args, out, at)
 }
