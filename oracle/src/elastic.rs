@@ -54,7 +54,7 @@ pub fn operation(field: &[u8], n: u64) -> Option<Operation> {
 
 /// A table of the Rust, with the counts that came in from outside kept apart: they may be ones that
 /// the Rust could not hold.
-struct Opened {
+pub struct Opened {
     n: u64,
     rust: ScalarElastic<CounterPrf>,
     count: u64,
@@ -62,7 +62,7 @@ struct Opened {
 }
 
 impl Opened {
-    fn new(table: &Table, bounds: Bounds) -> Result<Self, Refused> {
+    pub fn new(table: &Table, bounds: Bounds) -> Result<Self, Refused> {
         let config = rules::config(table.n, table.e)?;
         rules::elastic_limits(
             table.e,
@@ -100,7 +100,7 @@ impl Opened {
         Ok(())
     }
 
-    fn insert(&mut self, identity: u64) -> Result<ScalarElasticInsertion, Refused> {
+    pub fn insert(&mut self, identity: u64) -> Result<ScalarElasticInsertion, Refused> {
         self.enter()?;
         let rust = &mut self.rust;
         match caught(|| rust.insert(identity)) {
