@@ -117,7 +117,7 @@ fn named<'a>(groups: &[&'a str]) -> Vec<&'a str> {
 
 pub fn generate(size: &str, seed: &str, groups: &[&str]) {
     let percent = match size {
-        "ci" => 5,
+        "ci" => 20,
         "full" => 100,
         number => match number.parse() {
             Ok(percent @ 1..=100) => percent,

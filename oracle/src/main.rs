@@ -19,6 +19,7 @@ mod generate;
 mod image;
 mod line;
 mod panics;
+mod report;
 mod rules;
 
 use std::io::{BufRead, Write};
@@ -32,11 +33,20 @@ fn main() {
         ["answer", "--any-size"] => answer_all(rules::Bounds::NONE),
         ["generate", size, seed, groups @ ..] => generate::generate(size, seed, groups),
         ["sample", groups @ ..] => generate::sample(groups),
+        ["differences", name, commands, ours, theirs] => {
+            if !report::differences(name, commands, ours, theirs) {
+                std::process::exit(1);
+            }
+        }
+        ["tally", commands, answers] => report::tally(commands, answers),
         ["groups"] => println!("{}", generate::GROUPS.join(" ")),
         _ => {
-            eprintln!(
-                "usage: oracle answer [--any-size] | generate SIZE SEED [GROUP..] | sample [GROUP..] | groups"
-            );
+            eprintln!("usage: oracle answer [--any-size]");
+            eprintln!("       oracle generate SIZE SEED [GROUP..]");
+            eprintln!("       oracle sample [GROUP..]");
+            eprintln!("       oracle groups");
+            eprintln!("       oracle differences NAME COMMANDS ANSWERS OTHER-ANSWERS");
+            eprintln!("       oracle tally COMMANDS ANSWERS");
             std::process::exit(2);
         }
     }

@@ -120,12 +120,13 @@ fn any_table(group: &mut Group, most: u64) -> Table {
 /// An identity: new, small, with a key near 0, or one of those at hand.
 fn identity(group: &mut Group, seed: u64, known: &[u64]) -> u64 {
     let random = &mut group.random;
-    match random.below(12) {
+    match random.below(36) {
         0 => KEYLESS.wrapping_sub(seed),
         1 => KEYLESS.wrapping_sub(seed).wrapping_add(random.below(64)),
         2 => random.below(10),
-        3 | 4 if !known.is_empty() => random.pick(known),
-        _ => random.limit(),
+        3 => random.limit(),
+        4..=8 if !known.is_empty() => random.pick(known),
+        _ => random.word(),
     }
 }
 
@@ -329,7 +330,7 @@ fn made_up_states(group: &mut Group) {
             offset += length;
             let style = if style == 5 { group.random.below(5) } else { style };
             let taken = match style {
-                // As the counts say; as full as can be; all but one; any number; none.
+                // As the counts say; full; all but one; any number.
                 0 | 1 => counts[level],
                 2 => length,
                 3 => length - 1,

@@ -2,7 +2,7 @@
 
 use super::numbers::powers;
 use super::{Group, spoilt};
-use crate::exact::geometry::PaperConfig;
+use crate::exact::geometry::{PaperConfig, funnel_minimum_slots};
 
 /// Exponents at which something changes: the refusals of 0 to 2, the last with a funnel layout in the
 /// domain (27), the widths of words, and those at which 4e + 10 or e + 1 leave a narrow type.
@@ -17,11 +17,12 @@ pub fn has_funnel(n: u64, e: u32) -> bool {
     PaperConfig::new(n as usize, e).is_ok_and(|config| config.funnel_plan().is_ok())
 }
 
-/// The smallest n with a funnel layout for e.
+/// The smallest n with a funnel layout for e: below alpha*beta, and where the special part cannot hold
+/// two fallback buckets, there is none.
 pub fn smallest_funnel(e: u32) -> u64 {
-    let e = u64::from(e);
-    let below = ((4 * e + 10) * 2 * e).max((1 << (e + 2)) / 3);
-    (below..).find(|&n| has_funnel(n, e as u32)).expect("some layout")
+    let ordinary = (4 * e as usize + 10) * 2 * e as usize;
+    let from = funnel_minimum_slots(e, ordinary).expect("a small exponent");
+    (from as u64..).find(|&n| has_funnel(n, e)).expect("some layout")
 }
 
 pub fn lines(group: &mut Group) {
