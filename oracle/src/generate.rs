@@ -26,14 +26,14 @@ enum Sink {
     Few(Sample),
 }
 
-/// A sample takes so many lines of each section, the first so many with each kind of answer, and none
-/// that is longer than this.
-const SAMPLE_LINES: u64 = 12;
-const SAMPLE_KINDS: u64 = 5;
+/// A sample takes no line that is longer than this, or no plain text.
 const SAMPLE_LENGTH: usize = 2_500;
 
 #[derive(Default)]
 struct Sample {
+    /// So many lines are taken of each section, and the first so many with each kind of answer.
+    each_section: u64,
+    each_kind: u64,
     lines: Vec<Vec<u8>>,
     /// How often each kind of answer is among the lines.
     kinds: BTreeMap<(String, String), u64>,
@@ -45,13 +45,14 @@ struct Sample {
 
 impl Sample {
     fn line(&mut self, line: &[u8]) {
-        if line.len() > SAMPLE_LENGTH {
+        let is_plain = line.iter().all(|byte| (b' '..=b'~').contains(byte));
+        if line.len() > SAMPLE_LENGTH || !is_plain {
             return;
         }
         let kinds = kinds(line, &answer(line, Bounds::REPLAY));
         if kinds
             .iter()
-            .any(|kind| *self.kinds.get(kind).unwrap_or(&0) < SAMPLE_KINDS)
+            .any(|kind| *self.kinds.get(kind).unwrap_or(&0) < self.each_kind)
         {
             for kind in kinds.into_iter().collect::<BTreeSet<_>>() {
                 *self.kinds.entry(kind).or_default() += 1;
@@ -60,11 +61,11 @@ impl Sample {
             return;
         }
         self.seen += 1;
-        if self.seen <= SAMPLE_LINES {
+        if self.seen <= self.each_section {
             self.kept.push(line.to_vec());
         } else {
             let place = self.choice.below(self.seen);
-            if place < SAMPLE_LINES {
+            if place < self.each_section {
                 self.kept[place as usize] = line.to_vec();
             }
         }
@@ -181,7 +182,14 @@ pub fn generate(size: &str, seed: &str, groups: &[&str]) {
 
 pub fn sample(groups: &[&str]) {
     for name in named(groups) {
-        let mut group = Group::new(name, 2, 1, Sink::Few(Sample::default()));
+        // Layouts are short lines of two commands only, so there can be more of them.
+        let (each_section, each_kind) = if name == "layouts" { (30, 40) } else { (12, 5) };
+        let sample = Sample {
+            each_section,
+            each_kind,
+            ..Sample::default()
+        };
+        let mut group = Group::new(name, 2, 1, Sink::Few(sample));
         group.run(name);
         if let Sink::Few(sample) = group.sink {
             let mut out = std::io::stdout().lock();
