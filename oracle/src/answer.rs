@@ -2,8 +2,8 @@
 
 use crate::exact::geometry::PaperConfig;
 use crate::exact::probe::{
-    self, CounterPrf, ElasticProbeBudgetError, FunnelPrf, PhiCoordinate, PhiError, ProbeDomain,
-    ProbeIndex, ProbeOracle, RangeReductionError,
+    self, CounterPrf, ElasticProbeBudgetError, FunnelPrf, PhiCoordinate, PhiError, ProbeDomain, ProbeIndex,
+    ProbeOracle, RangeReductionError,
 };
 use crate::line::{bytes, entry, fields, half_word, two_words, word};
 use crate::rules::{self, Bounds, Refused, refusal};
@@ -68,9 +68,7 @@ fn command(line: &[u8], bounds: Bounds) -> Option<Result<String, Refused>> {
         (b"PHI", &[i, j]) => Some(phi(two_words(i)?, word(j)?)),
         (b"PHB", &[i, j]) => Some(phi_bounded(half_word(i)?, word(j)?)),
         (b"PHINV", &[p]) => Some(phi_inverse(two_words(p)?)),
-        (b"BUD", &[free, level, e, c]) => {
-            Some(budget(word(free)?, word(level)?, half_word(e)?, word(c)?))
-        }
+        (b"BUD", &[free, level, e, c]) => Some(budget(word(free)?, word(level)?, half_word(e)?, word(c)?)),
         (b"ERUN", &[n, e, seed, c, words, search, positions, ref operations @ ..]) => {
             let table = elastic_table(n, e, seed, c, words, search, positions)?;
             let operations = operations
@@ -170,7 +168,11 @@ fn elastic_layout(n: u64, e: u32) -> Result<String, Refused> {
         .zip(plan.batch_quotas())
         .map(|(length, quota)| format!(" {length}:{quota}"))
         .collect::<String>();
-    Ok(format!("{} {}{levels}", config.max_insertions(), plan.level_count()))
+    Ok(format!(
+        "{} {}{levels}",
+        config.max_insertions(),
+        plan.level_count()
+    ))
 }
 
 fn funnel_layout(n: u64, e: u32) -> Result<String, Refused> {
@@ -205,18 +207,16 @@ fn funnel_counter(domain: ProbeDomain, probe: u64, retry: u64) -> Result<u64, Re
 fn elastic_word(seed: u64, id: u64, level: u64, probe: u64, retry: u64) -> Result<String, Refused> {
     elastic_counter(level, probe, retry)?;
     let domain = ProbeDomain::ElasticOrdinary { level };
-    Ok(CounterPrf::new(seed).word(id, domain, probe, retry as u32).to_string())
+    Ok(CounterPrf::new(seed)
+        .word(id, domain, probe, retry as u32)
+        .to_string())
 }
 
-fn funnel_word(
-    seed: u64,
-    id: u64,
-    domain: ProbeDomain,
-    probe: u64,
-    retry: u64,
-) -> Result<String, Refused> {
+fn funnel_word(seed: u64, id: u64, domain: ProbeDomain, probe: u64, retry: u64) -> Result<String, Refused> {
     funnel_counter(domain, probe, retry)?;
-    Ok(FunnelPrf::new(seed).word(id, domain, probe, retry as u32).to_string())
+    Ok(FunnelPrf::new(seed)
+        .word(id, domain, probe, retry as u32)
+        .to_string())
 }
 
 fn elastic_reduction(
@@ -340,9 +340,8 @@ pub fn occupied(slots: &[Option<u64>]) -> impl Iterator<Item = (u64, u64)> {
 
 /// The identities of a bulk run: mix64(start + k * 9E3779B97F4A7C15), k = 1 .. count.
 pub fn bulk_identities(start: u64, count: u64) -> impl Iterator<Item = u64> {
-    (1..=count).map(move |k| {
-        CounterPrf::bare_mix64(start.wrapping_add(k.wrapping_mul(0x9e37_79b9_7f4a_7c15)))
-    })
+    (1..=count)
+        .map(move |k| CounterPrf::bare_mix64(start.wrapping_add(k.wrapping_mul(0x9e37_79b9_7f4a_7c15))))
 }
 
 /// Refusals counted by number, as `number:times` joined by commas, or `-`.

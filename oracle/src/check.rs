@@ -8,12 +8,7 @@ use crate::line::Entry;
 use crate::rules::{self, Bounds, Refused};
 
 /// "STATE, then DIRTY, come first", after 1 to 6.
-pub fn check(
-    table: &Table,
-    count: u64,
-    entries: &[Entry],
-    bounds: Bounds,
-) -> Result<String, Refused> {
+pub fn check(table: &Table, count: u64, entries: &[Entry], bounds: Bounds) -> Result<String, Refused> {
     funnel::gate(table, &[], bounds)?;
     rules::count_state(table.n, count)?;
     let (words, flags) = buffers(table, entries);
@@ -24,7 +19,11 @@ pub fn check(
         .collect();
     let (order, unplaced) = greedy(table, &occupied);
     let list: Vec<String> = order.iter().map(usize::to_string).collect();
-    let list = if list.is_empty() { String::from("-") } else { list.join(",") };
+    let list = if list.is_empty() {
+        String::from("-")
+    } else {
+        list.join(",")
+    };
     match unplaced {
         // "23 DISORDER: check stuck: number placed, smallest occupied slot unplaced".
         Some(slot) => Err(format!("R 23 {} {slot} {list}", order.len())),
@@ -54,9 +53,7 @@ pub fn greedy(table: &Table, occupied: &[(usize, u64)]) -> (Vec<usize>, Option<u
             }
             let (slot, identity) = occupied[member];
             let lands = match placed.search(identity) {
-                Ok((ScalarFunnelSearch::Vacant(at), _)) => {
-                    order.len() < maximum && at.global_slot() == slot
-                }
+                Ok((ScalarFunnelSearch::Vacant(at), _)) => order.len() < maximum && at.global_slot() == slot,
                 Ok((ScalarFunnelSearch::Hit(_) | ScalarFunnelSearch::Full, _)) | Err(_) => false,
             };
             if lands {

@@ -4,9 +4,7 @@ use core::num::{NonZeroU32, NonZeroU64, NonZeroU128, NonZeroUsize};
 
 use crate::answer::{Tally, bulk_identities, digest, occupied};
 use crate::exact::probe::CounterPrf;
-use crate::exact::reference::{
-    ElasticCase, ScalarElastic, ScalarElasticInsertion, ScalarElasticLimits,
-};
+use crate::exact::reference::{ElasticCase, ScalarElastic, ScalarElasticInsertion, ScalarElasticLimits};
 use crate::line::{pair, word};
 use crate::panics::caught;
 use crate::rules::{self, Bounds, Refused, refusal};
@@ -153,7 +151,10 @@ impl Opened {
 fn panic_refusal(message: &str) -> Refused {
     const RANGE: &str =
         "scalar Elastic range reduction must succeed: RejectionLimitExceeded { random_word_count: ";
-    if let Some(words) = message.strip_prefix(RANGE).and_then(|rest| rest.strip_suffix(" }")) {
+    if let Some(words) = message
+        .strip_prefix(RANGE)
+        .and_then(|rest| rest.strip_suffix(" }"))
+    {
         return format!("R 10 {words}");
     }
     match message {

@@ -4,9 +4,7 @@ use core::num::NonZeroU32;
 
 use crate::answer::{Tally, bulk_identities, digest, occupied, range_refusal};
 use crate::exact::probe::FunnelPrf;
-use crate::exact::reference::{
-    ScalarFunnel, ScalarFunnelInsert, ScalarFunnelLocation, ScalarFunnelSearch,
-};
+use crate::exact::reference::{ScalarFunnel, ScalarFunnelInsert, ScalarFunnelLocation, ScalarFunnelSearch};
 use crate::line::{pair, word};
 use crate::rules::{self, Bounds, Refused};
 
@@ -95,9 +93,7 @@ impl Opened {
                 self.count = self.rust.len() as u64;
                 let answer = match outcome {
                     ScalarFunnelInsert::Inserted(at) => Ok(format!("I {probes} {}", place(at))),
-                    ScalarFunnelInsert::Duplicate(at) => {
-                        Err(format!("R 15 {probes} {}", place(at)))
-                    }
+                    ScalarFunnelInsert::Duplicate(at) => Err(format!("R 15 {probes} {}", place(at))),
                     ScalarFunnelInsert::TargetExhausted => Err(format!("R 16 {probes}")),
                     ScalarFunnelInsert::FallbackFull => Err(format!("R 20 {probes}")),
                 };
@@ -174,5 +170,9 @@ pub fn bulk(table: &Table, start: u64, count: u64, bounds: Bounds) -> Result<Str
             refusals.add(&refused);
         }
     }
-    Ok(format!("{} {refusals} {all_probes} {}", opened.count, opened.digest()))
+    Ok(format!(
+        "{} {refusals} {all_probes} {}",
+        opened.count,
+        opened.digest()
+    ))
 }

@@ -10,8 +10,12 @@ mod numbers;
 mod probes;
 mod spoilt;
 
+use std::collections::{BTreeMap, BTreeSet};
 use std::io::{BufWriter, StdoutLock, Write};
 
+use crate::answer::answer;
+use crate::report::kinds;
+use crate::rules::Bounds;
 use numbers::Numbers;
 
 pub const GROUPS: [&str; 6] = ["layouts", "probes", "elastic", "funnel", "image", "check"];
@@ -19,12 +23,59 @@ pub const GROUPS: [&str; 6] = ["layouts", "probes", "elastic", "funnel", "image"
 /// Where the lines of a group go: all of them out, or a few of each section.
 enum Sink {
     All(BufWriter<StdoutLock<'static>>),
-    Few { kept: Vec<Vec<u8>>, seen: u64, choice: Numbers, lines: Vec<Vec<u8>> },
+    Few(Sample),
 }
 
-/// A sample takes so many lines of each section, and none that is longer than this.
-const SAMPLE_LINES: u64 = 12;
-const SAMPLE_LENGTH: usize = 1_500;
+/// A sample takes no line that is longer than this, or no plain text.
+const SAMPLE_LENGTH: usize = 2_500;
+
+#[derive(Default)]
+struct Sample {
+    /// So many lines are taken of each section, and the first so many with each kind of answer.
+    each_section: u64,
+    each_kind: u64,
+    lines: Vec<Vec<u8>>,
+    /// How often each kind of answer is among the lines.
+    kinds: BTreeMap<(String, String), u64>,
+    /// Some of the section's other lines, and how many of these there were.
+    kept: Vec<Vec<u8>>,
+    seen: u64,
+    choice: Numbers,
+}
+
+impl Sample {
+    fn line(&mut self, line: &[u8]) {
+        let is_plain = line.iter().all(|byte| (b' '..=b'~').contains(byte));
+        if line.len() > SAMPLE_LENGTH || !is_plain {
+            return;
+        }
+        let kinds = kinds(line, &answer(line, Bounds::REPLAY));
+        if kinds
+            .iter()
+            .any(|kind| *self.kinds.get(kind).unwrap_or(&0) < self.each_kind)
+        {
+            for kind in kinds.into_iter().collect::<BTreeSet<_>>() {
+                *self.kinds.entry(kind).or_default() += 1;
+            }
+            self.lines.push(line.to_vec());
+            return;
+        }
+        self.seen += 1;
+        if self.seen <= self.each_section {
+            self.kept.push(line.to_vec());
+        } else {
+            let place = self.choice.below(self.seen);
+            if place < self.each_section {
+                self.kept[place as usize] = line.to_vec();
+            }
+        }
+    }
+
+    fn section(&mut self) {
+        self.lines.append(&mut self.kept);
+        self.seen = 0;
+    }
+}
 
 pub struct Group {
     /// Where the random numbers come from.
@@ -36,7 +87,9 @@ pub struct Group {
 
 impl Group {
     fn new(name: &str, percent: u64, seed: u64, sink: Sink) -> Self {
-        let salt = name.bytes().fold(seed, |salt, byte| salt.wrapping_mul(257) + u64::from(byte));
+        let salt = name
+            .bytes()
+            .fold(seed, |salt, byte| salt.wrapping_mul(257) + u64::from(byte));
         Self {
             random: Numbers::new(salt),
             percent,
@@ -62,9 +115,8 @@ impl Group {
 
     /// A new kind of line begins: a sample has some of each kind.
     fn section(&mut self) {
-        if let Sink::Few { kept, seen, lines, .. } = &mut self.sink {
-            lines.append(kept);
-            *seen = 0;
+        if let Sink::Few(sample) = &mut self.sink {
+            sample.section();
         }
     }
 
@@ -75,20 +127,7 @@ impl Group {
                 out.write_all(line).expect("writable output");
                 out.write_all(b"\n").expect("writable output");
             }
-            Sink::Few { kept, seen, choice, .. } => {
-                if line.len() > SAMPLE_LENGTH {
-                    return;
-                }
-                *seen += 1;
-                if (kept.len() as u64) < SAMPLE_LINES {
-                    kept.push(line.to_vec());
-                } else {
-                    let place = choice.below(*seen);
-                    if place < SAMPLE_LINES {
-                        kept[place as usize] = line.to_vec();
-                    }
-                }
-            }
+            Sink::Few(sample) => sample.line(line),
         }
     }
 
@@ -112,7 +151,11 @@ fn named<'a>(groups: &[&'a str]) -> Vec<&'a str> {
         eprintln!("no group {unknown}; the groups are {}", GROUPS.join(" "));
         std::process::exit(2);
     }
-    if groups.is_empty() { GROUPS.to_vec() } else { groups.to_vec() }
+    if groups.is_empty() {
+        GROUPS.to_vec()
+    } else {
+        groups.to_vec()
+    }
 }
 
 pub fn generate(size: &str, seed: &str, groups: &[&str]) {
@@ -139,17 +182,18 @@ pub fn generate(size: &str, seed: &str, groups: &[&str]) {
 
 pub fn sample(groups: &[&str]) {
     for name in named(groups) {
-        let sink = Sink::Few {
-            kept: Vec::new(),
-            seen: 0,
-            choice: Numbers::new(1),
-            lines: Vec::new(),
+        // Layouts are short lines of two commands only, so there can be more of them.
+        let (each_section, each_kind) = if name == "layouts" { (30, 40) } else { (12, 5) };
+        let sample = Sample {
+            each_section,
+            each_kind,
+            ..Sample::default()
         };
-        let mut group = Group::new(name, 2, 1, sink);
+        let mut group = Group::new(name, 2, 1, Sink::Few(sample));
         group.run(name);
-        if let Sink::Few { lines, .. } = group.sink {
+        if let Sink::Few(sample) = group.sink {
             let mut out = std::io::stdout().lock();
-            for line in lines {
+            for line in sample.lines {
                 out.write_all(&line).expect("writable output");
                 out.write_all(b"\n").expect("writable output");
             }

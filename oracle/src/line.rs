@@ -19,7 +19,9 @@ pub fn two_words(field: &[u8]) -> Option<u128> {
     let mut value = 0_u128;
     for &digit in digits {
         let digit = char::from(digit).to_digit(base)?;
-        value = value.checked_mul(u128::from(base))?.checked_add(u128::from(digit))?;
+        value = value
+            .checked_mul(u128::from(base))?
+            .checked_add(u128::from(digit))?;
     }
     Some(value)
 }

@@ -34,7 +34,11 @@ pub fn differences(name: &str, commands: &str, ours: &str, theirs: &str) -> bool
     assert_eq!(commands.len(), ours.len(), "the oracle answers every line");
     let all = commands.len().max(theirs.len());
     let different: Vec<usize> = (0..all).filter(|&at| ours.get(at) != theirs.get(at)).collect();
-    println!("{name}: {} lines compared, {} differ", commands.len(), different.len());
+    println!(
+        "{name}: {} lines compared, {} differ",
+        commands.len(),
+        different.len()
+    );
     if let Some(&at) = different.first() {
         println!("first difference, line {}:", at + 1);
         println!("  command {}", shown(commands.get(at)));
@@ -44,34 +48,43 @@ pub fn differences(name: &str, commands: &str, ours: &str, theirs: &str) -> bool
     different.is_empty()
 }
 
-/// Prints, for each command word, how often each kind of answer came up; the answers of a run count
-/// one by one.
-pub fn tally(commands: &str, answers: &str) {
-    let mut kinds: BTreeMap<String, BTreeMap<String, u64>> = BTreeMap::new();
-    for (command, answer) in lines(commands).iter().zip(lines(answers)) {
-        let word = command.split(|&byte| byte == b' ').next().unwrap_or_default();
-        let answer = String::from_utf8_lossy(&answer).into_owned();
-        if answer == "?" {
-            *kinds.entry(String::from("?")).or_default().entry(String::from("?")).or_default() += 1;
-            continue;
+/// The kinds of answer in an answer, each with the command's word; those of a run one by one.
+pub fn kinds(command: &[u8], answer: &str) -> Vec<(String, String)> {
+    if answer == "?" {
+        return vec![(String::from("?"), String::from("?"))];
+    }
+    let word = command.split(|&byte| byte == b' ').next().unwrap_or_default();
+    let word = String::from_utf8_lossy(word);
+    let kind = |part: &str| {
+        let fields: Vec<&str> = part.split(' ').collect();
+        match fields.as_slice() {
+            ["R", number @ ("11" | "14"), reason, ..] => format!("R {number} {reason}"),
+            ["R", number, ..] => format!("R {number}"),
+            [letter @ ("I" | "H" | "V"), _, place @ ("O" | "P" | "B"), ..] => format!("{letter} {place}"),
+            ["I", case, ..] => format!("I {case}"),
+            [kind @ ("Q" | "END" | "OK" | "L"), ..] => (*kind).to_string(),
+            _ => String::from("answer"),
         }
-        let word = String::from_utf8_lossy(word).into_owned();
-        let counts = kinds.entry(word).or_default();
-        for part in answer.split("; ") {
-            let fields: Vec<&str> = part.split(' ').collect();
-            let kind = match fields.as_slice() {
-                ["R", number, reason, ..] if *number == "14" || *number == "11" => format!("R {number} {reason}"),
-                ["R", number, ..] => format!("R {number}"),
-                [letter @ ("I" | "H" | "V"), _, place @ ("O" | "P" | "B"), ..] => format!("{letter} {place}"),
-                ["I", case, ..] => format!("I {case}"),
-                [kind @ ("Q" | "END" | "OK" | "L"), ..] => (*kind).to_string(),
-                _ => String::from("answer"),
-            };
-            *counts.entry(kind).or_default() += 1;
+    };
+    answer
+        .split("; ")
+        .map(|part| (word.to_string(), kind(part)))
+        .collect()
+}
+
+/// Prints, for each command word, how often each kind of answer came up.
+pub fn tally(commands: &str, answers: &str) {
+    let mut all: BTreeMap<String, BTreeMap<String, u64>> = BTreeMap::new();
+    for (command, answer) in lines(commands).iter().zip(lines(answers)) {
+        for (word, kind) in kinds(command, &String::from_utf8_lossy(&answer)) {
+            *all.entry(word).or_default().entry(kind).or_default() += 1;
         }
     }
-    for (word, counts) in kinds {
-        let shown: Vec<String> = counts.iter().map(|(kind, times)| format!("{kind}: {times}")).collect();
+    for (word, counts) in all {
+        let shown: Vec<String> = counts
+            .iter()
+            .map(|(kind, times)| format!("{kind}: {times}"))
+            .collect();
         println!("{word:6} {}", shown.join(", "));
     }
 }

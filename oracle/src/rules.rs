@@ -56,7 +56,11 @@ pub fn funnel_plan(config: PaperConfig) -> Result<FunnelPlan, Refused> {
 
 /// "6 LIMITS: a cap or c outside the domain": "Funnel word cap 1 to 256".
 pub fn funnel_limits(cap: u64) -> Result<(), Refused> {
-    if (1..=256).contains(&cap) { Ok(()) } else { Err(refusal(6)) }
+    if (1..=256).contains(&cap) {
+        Ok(())
+    } else {
+        Err(refusal(6))
+    }
 }
 
 /// "Elastic: word cap 1 to 8; uniform-search cap 1 to 8,192; c at least 1 with c times min(e, 1024)
@@ -78,7 +82,11 @@ pub fn elastic_limits(
 
 /// "6 LIMITS: .. or label over 64 bytes".
 pub fn label_limit(label: &[u8]) -> Result<(), Refused> {
-    if label.len() <= 64 { Ok(()) } else { Err(refusal(6)) }
+    if label.len() <= 64 {
+        Ok(())
+    } else {
+        Err(refusal(6))
+    }
 }
 
 /// "7 STATE: .. count above n".
@@ -88,12 +96,7 @@ pub fn count_state(n: u64, count: u64) -> Result<(), Refused> {
 
 /// "7 STATE: .. elastic level count above its length, set beyond the last level, or not summing to
 /// the count".
-pub fn elastic_state(
-    n: u64,
-    count: u64,
-    lengths: &[usize],
-    level_counts: &[u64],
-) -> Result<(), Refused> {
+pub fn elastic_state(n: u64, count: u64, lengths: &[usize], level_counts: &[u64]) -> Result<(), Refused> {
     count_state(n, count)?;
     let above = lengths
         .iter()

@@ -18,10 +18,35 @@ pub fn lines(group: &mut Group) {
     made_up(group);
     large_tables(group);
     gates(group);
-    spoilt::lines(group, &["CHECK 144 3 0 8 0 0=5 1=5", "CHECK 144 3 0 8 0", "CHECK 144 3 0 8 1 0=5:1"]);
+    spoilt::lines(
+        group,
+        &[
+            "CHECK 144 3 0 8 0 0=5 1=5",
+            "CHECK 144 3 0 8 0",
+            "CHECK 144 3 0 8 1 0=5:1",
+        ],
+    );
     for entry in [
-        "0", "=7", "0=", "0=7:", "0=7:1", "0=7:0", "0=0:0", "0=7:2", "0=7:255", "0=7:256", "0=7:0x1", "0:1=7", "0=7:1:1",
-        "144=7", "143=7", "0=18446744073709551616", "0=18446744073709551615", "0=7=8", "0x0=0x7", "-",
+        "0",
+        "=7",
+        "0=",
+        "0=7:",
+        "0=7:1",
+        "0=7:0",
+        "0=0:0",
+        "0=7:2",
+        "0=7:255",
+        "0=7:256",
+        "0=7:0x1",
+        "0:1=7",
+        "0=7:1:1",
+        "144=7",
+        "143=7",
+        "0=18446744073709551616",
+        "0=18446744073709551615",
+        "0=7=8",
+        "0x0=0x7",
+        "-",
     ] {
         group.line(format!("CHECK 144 3 0 8 0 {entry}"));
         group.line(format!("CHECK 1 3 0 8 0 {entry}"));
@@ -40,7 +65,12 @@ fn check(group: &mut Group, table: &Table, count: u64, members: &Members) {
 fn cases(group: &mut Group) {
     group.section();
     for n in [144, 145] {
-        let table = Table { n, e: 3, seed: 0, cap: 8 };
+        let table = Table {
+            n,
+            e: 3,
+            seed: 0,
+            cap: 8,
+        };
         let maximum = plan(&table).maximum;
         check(group, &table, 0, &Members::new());
         for slot in 0..n {
@@ -79,12 +109,18 @@ fn filled(table: &Table, order: &[u64], past: bool) -> Members {
 /// Some damage to an image, near a slot if one is named.
 fn damaged(group: &mut Group, table: &Table, members: &Members, from: u64) -> Members {
     let mut members = members.clone();
-    for _ in 0..if group.random.once_in(3) { group.random.between(2, 4) } else { 1 } {
+    for _ in 0..if group.random.once_in(3) {
+        group.random.between(2, 4)
+    } else {
+        1
+    } {
         let slots: Vec<u64> = members.keys().copied().filter(|&slot| slot >= from).collect();
         if slots.is_empty() {
             return members;
         }
-        let vacant: Vec<u64> = (from..table.n).filter(|slot| !members.contains_key(slot)).collect();
+        let vacant: Vec<u64> = (from..table.n)
+            .filter(|slot| !members.contains_key(slot))
+            .collect();
         let slot = group.random.pick(&slots);
         let identity = members[&slot];
         match group.random.below(7) {
@@ -123,7 +159,11 @@ fn random_tables(group: &mut Group) {
     for _ in 0..group.times(500) {
         let table = any_table(group, 1_000);
         let maximum = plan(&table).maximum;
-        let many = if group.random.once_in(2) { maximum } else { group.random.between(1, maximum) };
+        let many = if group.random.once_in(2) {
+            maximum
+        } else {
+            group.random.between(1, maximum)
+        };
         let order: Vec<u64> = (0..many).map(|_| group.random.below(1 << 34)).collect();
         let members = filled(&table, &order, false);
         let count = group.random.between(0, table.n);
@@ -165,7 +205,11 @@ fn special_tables(group: &mut Group) {
                 check(group, &table, 0, &damaged);
             }
             // Each of two special members in the other's slot.
-            let special: Vec<u64> = members.keys().copied().filter(|&slot| slot >= plan.primary).collect();
+            let special: Vec<u64> = members
+                .keys()
+                .copied()
+                .filter(|&slot| slot >= plan.primary)
+                .collect();
             if special.len() >= 2 {
                 let (a, b) = (group.random.pick(&special), group.random.pick(&special));
                 let mut swapped = members.clone();
@@ -211,7 +255,12 @@ fn large_tables(group: &mut Group) {
         let from = group.random.between(2_000, 12_000);
         let e = group.random.pick(&[3, 4, 5]);
         let n = (from..).find(|&n| has_funnel(n, e)).expect("some layout");
-        let table = Table { n, e, seed: group.random.word(), cap: 8 };
+        let table = Table {
+            n,
+            e,
+            seed: group.random.word(),
+            cap: 8,
+        };
         let order: Vec<u64> = (0..n).map(|_| group.random.below(1 << 30)).collect();
         let members = filled(&table, &order, false);
         check(group, &table, 0, &members);
@@ -250,8 +299,16 @@ fn gates(group: &mut Group) {
         let table = any_table(group, 400);
         let mut text = String::new();
         for _ in 0..group.random.between(1, 20) {
-            let slot = if group.random.once_in(2) { group.random.below(table.n) } else { group.random.below(20) };
-            let word = if group.random.once_in(3) { 0 } else { group.random.limit() };
+            let slot = if group.random.once_in(2) {
+                group.random.below(table.n)
+            } else {
+                group.random.below(20)
+            };
+            let word = if group.random.once_in(3) {
+                0
+            } else {
+                group.random.limit()
+            };
             let flag = match group.random.below(12) {
                 0 => group.random.between(2, 255),
                 1 | 2 => 0,
@@ -259,7 +316,11 @@ fn gates(group: &mut Group) {
             };
             text.push_str(&format!(" {slot}={word}:{flag}"));
         }
-        let count = if group.random.once_in(10) { table.n + 1 } else { group.random.between(0, table.n) };
+        let count = if group.random.once_in(10) {
+            table.n + 1
+        } else {
+            group.random.between(0, table.n)
+        };
         group.line(format!("CHECK {} {count}{text}", head(&table)));
     }
 }

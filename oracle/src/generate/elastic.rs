@@ -16,6 +16,7 @@ pub fn lines(group: &mut Group) {
     openings(group);
     honest_runs(group);
     simulated_runs(group);
+    keyless_runs(group);
     bad_states(group);
     made_up_states(group);
     bulk_runs(group);
@@ -30,9 +31,35 @@ pub fn lines(group: &mut Group) {
         ],
     );
     for operation in [
-        "s7", "x7", "i", "q", "o", "c", "l", "i=7", "o4=7", "o3=7", "o3", "o=7", "o3=", "o3=7=8", "o3=7:1",
-        "c0", "c31=0", "c32=0", "c0=18446744073709551616", "l18446744073709551616", "l18446744073709551615",
-        "I7", "i0x7", "i0X7", "i-7", "i07", "o0x3=0x7", "c0=1", "i18446744073709551616",
+        "s7",
+        "x7",
+        "i",
+        "q",
+        "o",
+        "c",
+        "l",
+        "i=7",
+        "o4=7",
+        "o3=7",
+        "o3",
+        "o=7",
+        "o3=",
+        "o3=7=8",
+        "o3=7:1",
+        "c0",
+        "c31=0",
+        "c32=0",
+        "c0=18446744073709551616",
+        "l18446744073709551616",
+        "l18446744073709551615",
+        "I7",
+        "i0x7",
+        "i0X7",
+        "i-7",
+        "i07",
+        "o0x3=0x7",
+        "c0=1",
+        "i18446744073709551616",
     ] {
         group.line(format!("ERUN 4 1 0 1 8 8192 200 {operation} i5"));
         group.line(format!("ERUN 1 1 0 1 8 8192 200 {operation} i5"));
@@ -52,14 +79,40 @@ fn openings(group: &mut Group) {
     const SEARCHES: [u64; 6] = [0, 1, 8_192, 8_193, 1 << 32, u64::MAX];
     const POSITION_CAPS: [u64; 6] = [0, 1, POSITIONS, POSITIONS + 1, 1 << 32, u64::MAX];
     group.section();
-    for e in [0_u64, 1, 2, 3, 8, 100, 1_023, 1_024, 1_025, 8_191, 8_192, 8_193, 1 << 31, u32::MAX.into()] {
+    for e in [
+        0_u64,
+        1,
+        2,
+        3,
+        8,
+        100,
+        1_023,
+        1_024,
+        1_025,
+        8_191,
+        8_192,
+        8_193,
+        1 << 31,
+        u32::MAX.into(),
+    ] {
         let most = 8_192 / e.clamp(1, 1_024);
         for c in [0, 1, 2, most, most + 1, 8_192, 8_193, 1 << 32, 1 << 61, u64::MAX] {
             group.line(format!("ERUN 20 {e} 5 {c} 8 8192 100 i7"));
             group.line(format!("EBULK 20 {e} 5 {c} 8 8192 100 1 3"));
         }
     }
-    for n in [0_u64, 1, 2, 20, 65_536, 65_537, 1 << 32, (1 << 32) + 1, 1 << 63, u64::MAX] {
+    for n in [
+        0_u64,
+        1,
+        2,
+        20,
+        65_536,
+        65_537,
+        1 << 32,
+        (1 << 32) + 1,
+        1 << 63,
+        u64::MAX,
+    ] {
         for e in [0, 1, 3] {
             for words in WORDS {
                 group.line(format!("ERUN {n} {e} 5 1 {words} 8192 100 i7"));
@@ -87,7 +140,19 @@ fn any_table(group: &mut Group, most: u64) -> Table {
     }
     .min(most);
     let e = match random.below(20) {
-        0 => random.pick(&[20_u32, 31, 32, 63, 64, 1_023, 1_024, 1_025, 4_096, 1 << 31, u32::MAX]),
+        0 => random.pick(&[
+            20_u32,
+            31,
+            32,
+            63,
+            64,
+            1_023,
+            1_024,
+            1_025,
+            4_096,
+            1 << 31,
+            u32::MAX,
+        ]),
         1..=4 => random.between(7, 12) as u32,
         _ => random.between(1, 6) as u32,
     };
@@ -102,7 +167,11 @@ fn any_table(group: &mut Group, most: u64) -> Table {
         e,
         seed: random.limit(),
         c,
-        word_cap: if random.once_in(2) { 8 } else { random.between(1, 8) },
+        word_cap: if random.once_in(2) {
+            8
+        } else {
+            random.between(1, 8)
+        },
         search_cap: match random.below(6) {
             0 => random.between(1, 6),
             1 => random.between(1, 100),
@@ -186,6 +255,28 @@ fn simulated_runs(group: &mut Group) {
     }
 }
 
+/// RANGE in batch 0, in the budget probes of a later batch, and in a question; and a first word that is
+/// rejected and then spent.
+fn keyless_runs(group: &mut Group) {
+    group.section();
+    for _ in 0..group.times(300) {
+        let mut table = any_table(group, 80);
+        table.n = group.random.between(2, 40);
+        table.word_cap = group.random.pick(&[1, 1, 1, 2, 8]);
+        let id = KEYLESS.wrapping_sub(table.seed);
+        let mut line = format!("ERUN {}", head(&table));
+        for _ in 0..group.random.below(table.n) {
+            line.push_str(&format!(" i{}", group.random.word()));
+        }
+        line.push_str(&format!(" i{id} q{id} i{} q{id}", group.random.word()));
+        if group.random.once_in(2) {
+            let slot = group.random.below(table.n);
+            line.push_str(&format!(" o{slot}={id} q{id} i{id}"));
+        }
+        group.line(line);
+    }
+}
+
 struct Plan {
     lengths: Vec<u64>,
     quotas: Vec<u64>,
@@ -225,7 +316,10 @@ fn bad_states(group: &mut Group) {
             format!("c{level}=18446744073709551615 l18446744073709551615"),
             // Level counts whose sum wraps to the count.
             format!("c0=18446744073709551615 c{}=2 l1", levels.min(2) - 1),
-            format!("c0=9223372036854775808 c{}=9223372036854775808 l0", levels.min(2) - 1),
+            format!(
+                "c0=9223372036854775808 c{}=9223372036854775808 l0",
+                levels.min(2) - 1
+            ),
             format!("c31={}", u64::from(levels < 32)),
             format!("c31=1 l1"),
             format!("c{}=1 l1", levels.min(31)),
@@ -234,7 +328,9 @@ fn bad_states(group: &mut Group) {
         let full: Vec<String> = (0..levels).map(|k| format!("c{k}={}", plan.lengths[k])).collect();
         states.push(format!("{} l{}", full.join(" "), table.n));
         states.push(format!("{} l{}", full.join(" "), table.n - 1));
-        let state = group.random.pick(&states.iter().map(String::as_str).collect::<Vec<_>>());
+        let state = group
+            .random
+            .pick(&states.iter().map(String::as_str).collect::<Vec<_>>());
         group.line(format!("ERUN {head} {state} i7 q7"));
         group.line(format!("ERUN {head} i5 {state} q5 i7"));
     }
@@ -248,7 +344,11 @@ fn counts(group: &mut Group, table: &Table, plan: &Plan) -> (Vec<u64>, u64) {
     match random.below(8) {
         0 => (vec![0; levels], 0),
         1 | 2 => {
-            let counts: Vec<u64> = plan.lengths.iter().map(|&length| random.between(0, length)).collect();
+            let counts: Vec<u64> = plan
+                .lengths
+                .iter()
+                .map(|&length| random.between(0, length))
+                .collect();
             let count = counts.iter().sum();
             (counts, count)
         }
@@ -280,7 +380,9 @@ fn counts(group: &mut Group, table: &Table, plan: &Plan) -> (Vec<u64>, u64) {
                     continue;
                 }
                 let mut counts = vec![0; levels];
-                let low = plan.lengths[batch - 1].checked_shr(table.e.saturating_add(1)).unwrap_or(0);
+                let low = plan.lengths[batch - 1]
+                    .checked_shr(table.e.saturating_add(1))
+                    .unwrap_or(0);
                 let lows = [low, plan.lengths[batch] / 4];
                 for (level, low) in [batch - 1, batch].into_iter().zip(lows) {
                     let length = plan.lengths[level];
@@ -372,12 +474,19 @@ fn bulk_runs(group: &mut Group) {
             table.position_cap = POSITIONS;
         }
         let (start, more) = (group.random.limit(), group.random.below(6));
-        let count = if group.random.once_in(4) { group.random.below(20) } else { table.n + more };
+        let count = if group.random.once_in(4) {
+            group.random.below(20)
+        } else {
+            table.n + more
+        };
         group.line(format!("EBULK {} {start} {count}", head(&table)));
     }
     group.section();
     let sizes: &[u64] = if group.is_full() {
-        &[1_000, 1_023, 1_024, 1_025, 2_048, 4_095, 4_096, 4_097, 8_192, 10_000, 16_384, 32_768, 65_535, 65_536]
+        &[
+            1_000, 1_023, 1_024, 1_025, 2_048, 4_095, 4_096, 4_097, 8_192, 10_000, 16_384, 32_768, 65_535,
+            65_536,
+        ]
     } else {
         &[1_024, 1_025, 4_096, 5_000]
     };
@@ -387,7 +496,10 @@ fn bulk_runs(group: &mut Group) {
                 continue;
             }
             let (seed, start) = (group.random.word(), group.random.word());
-            group.line(format!("EBULK {n} {e} {seed} {c} 8 8192 {POSITIONS} {start} {}", n + 2));
+            group.line(format!(
+                "EBULK {n} {e} {seed} {c} 8 8192 {POSITIONS} {start} {}",
+                n + 2
+            ));
         }
     }
 }

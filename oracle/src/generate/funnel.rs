@@ -17,11 +17,37 @@ pub fn lines(group: &mut Group) {
     bulk_runs(group);
     spoilt::lines(
         group,
-        &["FRUN 144 3 0 8 i7", "FRUN 144 3 0 8 s7", "FRUN 144 3 0 8", "FBULK 144 3 0 8 5 20"],
+        &[
+            "FRUN 144 3 0 8 i7",
+            "FRUN 144 3 0 8 s7",
+            "FRUN 144 3 0 8",
+            "FBULK 144 3 0 8 5 20",
+        ],
     );
     for operation in [
-        "q7", "x7", "i", "s", "o", "l", "c0=1", "i=7", "o144=7", "o143=7", "o3", "o=7", "o3=", "o3=7=8", "o3=7:1",
-        "l18446744073709551616", "l18446744073709551615", "I7", "i0x7", "i0X7", "i-7", "i07", "o0x3=0x7",
+        "q7",
+        "x7",
+        "i",
+        "s",
+        "o",
+        "l",
+        "c0=1",
+        "i=7",
+        "o144=7",
+        "o143=7",
+        "o3",
+        "o=7",
+        "o3=",
+        "o3=7=8",
+        "o3=7:1",
+        "l18446744073709551616",
+        "l18446744073709551615",
+        "I7",
+        "i0x7",
+        "i0X7",
+        "i-7",
+        "i07",
+        "o0x3=0x7",
         "i18446744073709551616",
     ] {
         group.line(format!("FRUN 144 3 0 8 {operation} i5"));
@@ -33,7 +59,20 @@ pub fn lines(group: &mut Group) {
 fn openings(group: &mut Group) {
     group.section();
     let large: Vec<u64> = (65_537..).filter(|&n| has_funnel(n, 3)).take(2).collect();
-    let sizes = [0, 1, 2, 143, 144, 145, large[0], large[1], 1 << 32, (1 << 32) + 1, 1 << 63, u64::MAX];
+    let sizes = [
+        0,
+        1,
+        2,
+        143,
+        144,
+        145,
+        large[0],
+        large[1],
+        1 << 32,
+        (1 << 32) + 1,
+        1 << 63,
+        u64::MAX,
+    ];
     for n in sizes {
         for e in [0, 1, 2, 3, 4, 28, 1 << 31, u32::MAX] {
             for cap in [0, 1, 8, 256, 257, 1 << 32, (1 << 32) + 1, u64::MAX] {
@@ -42,7 +81,10 @@ fn openings(group: &mut Group) {
             }
         }
     }
-    let last = (65_000..=65_536).rev().find(|&n| has_funnel(n, 3)).expect("some layout");
+    let last = (65_000..=65_536)
+        .rev()
+        .find(|&n| has_funnel(n, 3))
+        .expect("some layout");
     group.line(format!("FRUN {last} 3 5 8 i7 s7"));
 }
 
@@ -128,14 +170,21 @@ pub fn bucket(table: &Table, level: usize, buckets: usize, identity: u64) -> usi
 /// Identities that all have the same bucket in every level: beta * alpha of them fill these buckets,
 /// and the next ones reach the special part. `None` where such identities are too rare to search for.
 pub fn followers(group: &mut Group, table: &Table, plan: &Plan, many: usize) -> Option<Vec<u64>> {
-    let wide: Vec<(usize, usize)> =
-        plan.counts.iter().copied().enumerate().filter(|&(_, buckets)| buckets > 1).collect();
+    let wide: Vec<(usize, usize)> = plan
+        .counts
+        .iter()
+        .copied()
+        .enumerate()
+        .filter(|&(_, buckets)| buckets > 1)
+        .collect();
     let rarity: f64 = wide.iter().map(|&(_, buckets)| buckets as f64).product();
     if rarity > 5_000.0 {
         return None;
     }
-    let chosen: Vec<usize> =
-        wide.iter().map(|&(_, buckets)| group.random.below(buckets as u64) as usize).collect();
+    let chosen: Vec<usize> = wide
+        .iter()
+        .map(|&(_, buckets)| group.random.below(buckets as u64) as usize)
+        .collect();
     let mut list = Vec::new();
     let mut identity = group.random.below(1 << 40);
     while list.len() < many {
@@ -200,7 +249,11 @@ fn honest_runs(group: &mut Group) {
             let text = group.random.text(id);
             line.push_str(&format!(" i{text}"));
             if group.random.once_in(6) {
-                let id = if group.random.once_in(3) { group.random.word() } else { group.random.pick(&known) };
+                let id = if group.random.once_in(3) {
+                    group.random.word()
+                } else {
+                    group.random.pick(&known)
+                };
                 line.push_str(&format!(" s{id}"));
             }
         }
@@ -228,7 +281,11 @@ fn special_runs(group: &mut Group) {
             for (place, id) in order.iter().enumerate() {
                 line.push_str(&format!(" i{id}"));
                 if place > order.len() - 30 || group.random.once_in(20) {
-                    let id = if group.random.once_in(2) { order[group.random.below(place as u64 + 1) as usize] } else { order[order.len() - 1] };
+                    let id = if group.random.once_in(2) {
+                        order[group.random.below(place as u64 + 1) as usize]
+                    } else {
+                        order[order.len() - 1]
+                    };
                     line.push_str(&format!(" s{id}"));
                 }
                 if group.random.once_in(40) {
@@ -259,7 +316,11 @@ fn made_up_states(group: &mut Group) {
                 _ => fallback,
             };
             if group.random.below(100) < share {
-                let id = if group.random.once_in(10) { group.random.below(1_000) } else { 1_000 + slot };
+                let id = if group.random.once_in(10) {
+                    group.random.below(1_000)
+                } else {
+                    1_000 + slot
+                };
                 known.push(id);
                 line.push_str(&format!(" o{slot}={id}"));
             }

@@ -32,8 +32,25 @@ pub fn lines(group: &mut Group) {
         group.line(format!("WRITE 144 3 0 8 {hex} 100 0=7"));
     }
     for entry in [
-        "0", "=7", "0=", "0=7:", "0=7:1", "0=7:0", "0=0:0", "0=7:2", "0=7:255", "0=7:256", "0=7:0x1", "0:1=7", "0=7:1:1",
-        "144=7", "143=7", "0=18446744073709551616", "0=18446744073709551615", "0=7=8", "0x0=0x7",
+        "0",
+        "=7",
+        "0=",
+        "0=7:",
+        "0=7:1",
+        "0=7:0",
+        "0=0:0",
+        "0=7:2",
+        "0=7:255",
+        "0=7:256",
+        "0=7:0x1",
+        "0:1=7",
+        "0=7:1:1",
+        "144=7",
+        "143=7",
+        "0=18446744073709551616",
+        "0=18446744073709551615",
+        "0=7=8",
+        "0x0=0x7",
     ] {
         group.line(format!("WRITE 144 3 0 8 - 75 {entry}"));
         group.line(format!("WRITE 1 3 0 8 - 75 {entry}"));
@@ -41,7 +58,11 @@ pub fn lines(group: &mut Group) {
 }
 
 fn load(group: &mut Group, table: &Table, image: &[u8]) {
-    let image = if image.is_empty() { String::from("-") } else { hex(image) };
+    let image = if image.is_empty() {
+        String::from("-")
+    } else {
+        hex(image)
+    };
     group.line(format!("LOAD {} {image}", head(table)));
 }
 
@@ -64,11 +85,27 @@ fn label(group: &mut Group, length: usize) -> Vec<u8> {
 
 /// Every truncation and every change of a byte of several small images.
 fn broken_bytes(group: &mut Group) {
-    let small = Table { n: 144, e: 3, seed: 0, cap: 8 };
-    let other = Table { n: 344, e: 4, seed: 0x0102_0304_0506_0708, cap: 256 };
-    for (table, label_length, many) in
-        [(small, 0, 0), (small, 0, 2), (small, 1, 1), (small, 64, 3), (small, 3, 0), (other, 5, 7), (other, 0, 12)]
-    {
+    let small = Table {
+        n: 144,
+        e: 3,
+        seed: 0,
+        cap: 8,
+    };
+    let other = Table {
+        n: 344,
+        e: 4,
+        seed: 0x0102_0304_0506_0708,
+        cap: 256,
+    };
+    for (table, label_length, many) in [
+        (small, 0, 0),
+        (small, 0, 2),
+        (small, 1, 1),
+        (small, 64, 3),
+        (small, 3, 0),
+        (other, 5, 7),
+        (other, 0, 12),
+    ] {
         group.section();
         let label = label(group, label_length);
         let entries = entries(group, table.n, many);
@@ -78,7 +115,17 @@ fn broken_bytes(group: &mut Group) {
         }
         for place in 0..image.len() {
             let byte = image[place];
-            for changed in [byte ^ 1, byte ^ 0x80, byte.wrapping_add(1), byte.wrapping_sub(1), 0, 0xff, 4, 5, 6] {
+            for changed in [
+                byte ^ 1,
+                byte ^ 0x80,
+                byte.wrapping_add(1),
+                byte.wrapping_sub(1),
+                0,
+                0xff,
+                4,
+                5,
+                6,
+            ] {
                 if changed != byte && (image.len() < 80 || group.random.below(100) < group.percent.max(25)) {
                     let mut image = image.clone();
                     image[place] = changed;
@@ -126,7 +173,12 @@ fn body(entries: &[(u64, u64)]) -> Vec<u8> {
 
 /// Each field with another tag, another length, left out, twice, or swapped with the next.
 fn broken_fields(group: &mut Group) {
-    let table = Table { n: 145, e: 3, seed: 77, cap: 8 };
+    let table = Table {
+        n: 145,
+        e: 3,
+        seed: 77,
+        cap: 8,
+    };
     let entries = [(0, 5), (3, 6), (144, 7)];
     let whole: Vec<(u8, Vec<u8>)> = vec![
         (1, table.n.to_le_bytes().to_vec()),
@@ -200,8 +252,17 @@ fn broken_fields(group: &mut Group) {
 fn soups(group: &mut Group) {
     group.section();
     for _ in 0..group.times(12_000) {
-        let table = Table { n: group.random.pick(&[144, 145]), e: 3, seed: group.random.below(2), cap: 8 };
-        let image_n = if group.random.once_in(10) { group.random.limit() } else { table.n };
+        let table = Table {
+            n: group.random.pick(&[144, 145]),
+            e: 3,
+            seed: group.random.below(2),
+            cap: 8,
+        };
+        let image_n = if group.random.once_in(10) {
+            group.random.limit()
+        } else {
+            table.n
+        };
         let mut image = start(image_n, 3, 0);
         let mut slot = 0;
         let mut members = 0_u64;
@@ -209,7 +270,11 @@ fn soups(group: &mut Group) {
             if tag < 6 && group.random.once_in(2) {
                 continue;
             }
-            let tag = if group.random.once_in(15) { group.random.below(8) as u8 } else { tag };
+            let tag = if group.random.once_in(15) {
+                group.random.below(8) as u8
+            } else {
+                tag
+            };
             let body = match tag {
                 4 => {
                     let length = group.random.pick(&[1, 2, 63, 64, 64, 65]);
@@ -218,18 +283,30 @@ fn soups(group: &mut Group) {
                 5 => {
                     let mut list = Vec::new();
                     for _ in 0..group.random.between(0, 5) {
-                        slot += if group.random.once_in(25) { 0 } else { group.random.between(1, 20) };
+                        slot += if group.random.once_in(25) {
+                            0
+                        } else {
+                            group.random.between(1, 20)
+                        };
                         list.push((slot, group.random.word()));
                         members += 1;
                     }
                     body(&list)
                 }
                 _ => {
-                    let off = if group.random.once_in(10) { group.random.pick(&[1, u64::MAX, 1 << 40]) } else { 0 };
+                    let off = if group.random.once_in(10) {
+                        group.random.pick(&[1, u64::MAX, 1 << 40])
+                    } else {
+                        0
+                    };
                     members.wrapping_add(off).to_le_bytes().to_vec()
                 }
             };
-            let length = if group.random.once_in(25) { body.len() + 1 } else { body.len() };
+            let length = if group.random.once_in(25) {
+                body.len() + 1
+            } else {
+                body.len()
+            };
             put(&mut image, tag, length, &body);
         }
         if group.random.once_in(10) {
@@ -248,13 +325,27 @@ fn soups(group: &mut Group) {
         if group.random.once_in(2) && length > 12 {
             image[..11].copy_from_slice(&start(144, 3, 0)[..11]);
         }
-        load(group, &Table { n: 144, e: 3, seed: 0, cap: 8 }, &image);
+        load(
+            group,
+            &Table {
+                n: 144,
+                e: 3,
+                seed: 0,
+                cap: 8,
+            },
+            &image,
+        );
     }
 }
 
 /// Labels of every length, and of those that are wrong.
 fn labels(group: &mut Group) {
-    let table = Table { n: 144, e: 3, seed: 5, cap: 8 };
+    let table = Table {
+        n: 144,
+        e: 3,
+        seed: 5,
+        cap: 8,
+    };
     group.section();
     for length in (0..=70).chain([127, 128, 255, 256, 257, 320, 65_535]) {
         let label = label(group, length);
@@ -265,7 +356,11 @@ fn labels(group: &mut Group) {
         put(&mut image, 6, 8, &2_u64.to_le_bytes());
         load(group, &table, &image);
         if length <= 400 {
-            let text = if length == 0 { String::from("-") } else { hex(&label) };
+            let text = if length == 0 {
+                String::from("-")
+            } else {
+                hex(&label)
+            };
             let need = 29 + if length == 0 { 0 } else { 3 + length } + 35 + 11;
             for room in [need - 1, need, need + 1] {
                 group.line(format!("WRITE {} {text} {room} 1=2 3=4", head(&table)));
@@ -291,7 +386,12 @@ fn labels(group: &mut Group) {
 /// Around 4,095 entries a field, over several fields.
 fn many_entries(group: &mut Group) {
     let n = (9_000..).find(|&n| has_funnel(n, 3)).expect("some layout");
-    let table = Table { n, e: 3, seed: 3, cap: 8 };
+    let table = Table {
+        n,
+        e: 3,
+        seed: 3,
+        cap: 8,
+    };
     let list: Vec<(u64, u64)> = (0..n).map(|slot| (slot, slot * 3)).collect();
     let counted = |image: &mut Vec<u8>, many: usize| put(image, 6, 8, &(many as u64).to_le_bytes());
     group.section();
@@ -341,7 +441,10 @@ fn many_entries(group: &mut Group) {
         }
     }
     for many in [0, 1, 4_094, 4_095, 4_096, 4_097, 8_189, 8_190, 8_191] {
-        let entries: Vec<String> = list[..many].iter().map(|(slot, id)| format!("{slot}={id}")).collect();
+        let entries: Vec<String> = list[..many]
+            .iter()
+            .map(|(slot, id)| format!("{slot}={id}"))
+            .collect();
         let need = 29 + 16 * many + 3 * many.div_ceil(4_095) + 11;
         for room in [need - 1, need, need + 3] {
             group.line(format!("WRITE {} - {room} {}", head(&table), entries.join(" ")).trim_end());
@@ -349,17 +452,31 @@ fn many_entries(group: &mut Group) {
     }
     if group.is_full() {
         let n = (13_000..).find(|&n| has_funnel(n, 3)).expect("some layout");
-        let table = Table { n, e: 3, seed: 3, cap: 8 };
+        let table = Table {
+            n,
+            e: 3,
+            seed: 3,
+            cap: 8,
+        };
         let list: Vec<(u64, u64)> = (0..n).map(|slot| (slot, slot % 7)).collect();
         for many in [12_284, 12_285, 12_286] {
-            load(group, &table, &build(n, 3, 3, b"three full fields", &list[..many]));
+            load(
+                group,
+                &table,
+                &build(n, 3, 3, b"three full fields", &list[..many]),
+            );
         }
     }
 }
 
 /// Slots and the count, the only contents that can be wrong.
 fn contents(group: &mut Group) {
-    let table = Table { n: 144, e: 3, seed: 0, cap: 8 };
+    let table = Table {
+        n: 144,
+        e: 3,
+        seed: 0,
+        cap: 8,
+    };
     let with = |n: u64, list: &[(u64, u64)], count: u64| {
         let mut image = start(n, 3, 0);
         if !list.is_empty() {
@@ -393,7 +510,12 @@ fn contents(group: &mut Group) {
 }
 
 fn foreign(group: &mut Group) {
-    let table = Table { n: 144, e: 3, seed: 9, cap: 8 };
+    let table = Table {
+        n: 144,
+        e: 3,
+        seed: 9,
+        cap: 8,
+    };
     group.section();
     for n in [0, 1, 143, 144, 145, 144 + (1 << 32), u64::MAX] {
         for e in [0, 2, 3, 4, 3 + (1 << 31), u32::MAX] {
@@ -423,7 +545,17 @@ fn gates(group: &mut Group) {
             }
         }
     }
-    for room in [0_u64, 39, 40, 41, 1_048_575, 1_048_576, 1_048_577, 1 << 32, u64::MAX] {
+    for room in [
+        0_u64,
+        39,
+        40,
+        41,
+        1_048_575,
+        1_048_576,
+        1_048_577,
+        1 << 32,
+        u64::MAX,
+    ] {
         group.line(format!("WRITE 144 3 0 8 - {room}"));
         group.line(format!("WRITE 144 3 0 8 - {room} 3=5:2"));
         group.line(format!("WRITE 144 3 0 257 - {room}"));
@@ -447,7 +579,11 @@ fn honest_images(group: &mut Group) {
         let label = label(group, length);
         let image = build(table.n, table.e, table.seed, &label, &entries);
         load(group, &table, &image);
-        let text = if label.is_empty() { String::from("-") } else { hex(&label) };
+        let text = if label.is_empty() {
+            String::from("-")
+        } else {
+            hex(&label)
+        };
         let mut shown: Vec<String> = entries.iter().map(|(slot, id)| format!("{slot}={id}")).collect();
         if group.random.once_in(2) {
             group.random.shuffle(&mut shown);
@@ -468,14 +604,31 @@ fn writings(group: &mut Group) {
     }
     group.section();
     for _ in 0..group.times(2_000) {
-        let table = Table { n: group.random.pick(&[144, 145, 344]), e: 3, seed: group.random.limit(), cap: 8 };
-        let table = if table.n == 344 { Table { e: 4, ..table } } else { table };
+        let table = Table {
+            n: group.random.pick(&[144, 145, 344]),
+            e: 3,
+            seed: group.random.limit(),
+            cap: 8,
+        };
+        let table = if table.n == 344 {
+            Table { e: 4, ..table }
+        } else {
+            table
+        };
         let many = group.random.below(20);
         let clean = group.random.once_in(2);
         let mut text = String::new();
         for _ in 0..many {
-            let slot = if group.random.once_in(6) { group.random.pick(&[0, table.n - 1]) } else { group.random.below(table.n) };
-            let word = if group.random.once_in(4) { 0 } else { group.random.limit() };
+            let slot = if group.random.once_in(6) {
+                group.random.pick(&[0, table.n - 1])
+            } else {
+                group.random.below(table.n)
+            };
+            let word = if group.random.once_in(4) {
+                0
+            } else {
+                group.random.limit()
+            };
             let flag = match group.random.below(20) {
                 _ if clean => 1,
                 0 => group.random.between(2, 255),
@@ -489,7 +642,11 @@ fn writings(group: &mut Group) {
         }
         let length = group.random.pick(&[0, 0, 1, 2, 64, 65]);
         let label = label(group, length);
-        let label = if label.is_empty() { String::from("-") } else { hex(&label) };
+        let label = if label.is_empty() {
+            String::from("-")
+        } else {
+            hex(&label)
+        };
         let room = group.random.pick(&[10_000, 10_000, 200, 0]);
         group.line(format!("WRITE {} {label} {room}{text}", head(&table)));
     }

@@ -1,5 +1,6 @@
 //! The generator's own random numbers, and the values at limits that every group draws from.
 
+#[derive(Default)]
 pub struct Numbers {
     state: u64,
 }

@@ -5,13 +5,35 @@ use super::{Group, spoilt};
 use crate::exact::probe::elastic_phi;
 
 const ELASTIC_LEVELS: [u64; 12] = [
-    0, 1, 15, 16, 30, 31, 32, 33, 1 << 32, (1 << 32) + 1, 1 << 63, u64::MAX,
+    0,
+    1,
+    15,
+    16,
+    30,
+    31,
+    32,
+    33,
+    1 << 32,
+    (1 << 32) + 1,
+    1 << 63,
+    u64::MAX,
 ];
 const ELASTIC_PROBES: [u64; 13] = [
-    0, 1, 2, 4_095, 4_096, 8_190, 8_191, 8_192, 8_193, 65_536, 1 << 32, 1 << 61, u64::MAX,
+    0,
+    1,
+    2,
+    4_095,
+    4_096,
+    8_190,
+    8_191,
+    8_192,
+    8_193,
+    65_536,
+    1 << 32,
+    1 << 61,
+    u64::MAX,
 ];
-const ELASTIC_RETRIES: [u64; 10] =
-    [0, 1, 6, 7, 8, 9, 1 << 16, (1 << 32) - 1, 1 << 32, u64::MAX];
+const ELASTIC_RETRIES: [u64; 10] = [0, 1, 6, 7, 8, 9, 1 << 16, (1 << 32) - 1, 1 << 32, u64::MAX];
 const FUNNEL_LEVELS: [u64; 13] = [
     0,
     1,
@@ -27,12 +49,25 @@ const FUNNEL_LEVELS: [u64; 13] = [
     1 << 48,
     u64::MAX,
 ];
-const FUNNEL_PROBES: [u64; 11] =
-    [0, 1, 2, 127, 254, 255, 256, 257, 1 << 32, 1 << 56, u64::MAX];
-const FUNNEL_RETRIES: [u64; 11] =
-    [0, 1, 2, 127, 254, 255, 256, 257, (1 << 32) - 1, 1 << 32, u64::MAX];
+const FUNNEL_PROBES: [u64; 11] = [0, 1, 2, 127, 254, 255, 256, 257, 1 << 32, 1 << 56, u64::MAX];
+const FUNNEL_RETRIES: [u64; 11] = [0, 1, 2, 127, 254, 255, 256, 257, (1 << 32) - 1, 1 << 32, u64::MAX];
 const CAPS: [u64; 16] = [
-    0, 1, 2, 3, 7, 8, 9, 10, 255, 256, 257, 258, (1 << 32) - 1, 1 << 32, (1 << 32) + 1, u64::MAX,
+    0,
+    1,
+    2,
+    3,
+    7,
+    8,
+    9,
+    10,
+    255,
+    256,
+    257,
+    258,
+    (1 << 32) - 1,
+    1 << 32,
+    (1 << 32) + 1,
+    u64::MAX,
 ];
 /// The identity that makes the elastic key 0 for seed 0; mix64(0) is 0, so its first word is 0.
 const KEYLESS: u64 = 0x61c8_8646_80b5_83eb;
@@ -111,9 +146,21 @@ fn counters(group: &mut Group) {
 /// A place in the elastic packing, at times beyond it.
 fn elastic_place(group: &mut Group) -> (u64, u64, u64) {
     let random = &mut group.random;
-    let level = if random.once_in(20) { random.pick(&ELASTIC_LEVELS) } else { random.below(32) };
-    let probe = if random.once_in(20) { random.pick(&ELASTIC_PROBES) } else { random.below(8_192) };
-    let retry = if random.once_in(20) { random.pick(&ELASTIC_RETRIES) } else { random.below(8) };
+    let level = if random.once_in(20) {
+        random.pick(&ELASTIC_LEVELS)
+    } else {
+        random.below(32)
+    };
+    let probe = if random.once_in(20) {
+        random.pick(&ELASTIC_PROBES)
+    } else {
+        random.below(8_192)
+    };
+    let retry = if random.once_in(20) {
+        random.pick(&ELASTIC_RETRIES)
+    } else {
+        random.below(8)
+    };
     (level, probe, retry)
 }
 
@@ -127,8 +174,16 @@ fn funnel_place(group: &mut Group) -> (u64, u64, u64, u64) {
         1..=4 => random.below(1 << 46),
         _ => random.below(118),
     };
-    let probe = if random.once_in(20) { random.pick(&FUNNEL_PROBES) } else { random.below(256) };
-    let retry = if random.once_in(20) { random.pick(&FUNNEL_RETRIES) } else { random.below(256) };
+    let probe = if random.once_in(20) {
+        random.pick(&FUNNEL_PROBES)
+    } else {
+        random.below(256)
+    };
+    let retry = if random.once_in(20) {
+        random.pick(&FUNNEL_RETRIES)
+    } else {
+        random.below(256)
+    };
     (tag, level, probe, retry)
 }
 
@@ -143,8 +198,14 @@ fn words(group: &mut Group) {
     // A key that equals the counter: mix64(0) is 0, so the word is the key.
     for _ in 0..group.times(2_000) {
         let seed = group.random.limit();
-        let (level, probe, retry) = (group.random.below(32), group.random.below(8_192), group.random.below(8));
-        let id = (level << 16 | probe << 3 | retry).wrapping_add(KEYLESS).wrapping_sub(seed);
+        let (level, probe, retry) = (
+            group.random.below(32),
+            group.random.below(8_192),
+            group.random.below(8),
+        );
+        let id = (level << 16 | probe << 3 | retry)
+            .wrapping_add(KEYLESS)
+            .wrapping_sub(seed);
         group.line(format!("EW {seed} {id} {level} {probe} {retry}"));
     }
     group.section();
@@ -226,7 +287,11 @@ fn reductions(group: &mut Group) {
         let upper = any_upper(group, &uppers);
         let (seed, id) = (group.random.limit(), group.random.limit());
         let (level, probe, _) = elastic_place(group);
-        let cap = if group.random.once_in(10) { group.random.pick(&CAPS) } else { group.random.between(1, 8) };
+        let cap = if group.random.once_in(10) {
+            group.random.pick(&CAPS)
+        } else {
+            group.random.between(1, 8)
+        };
         let upper = group.random.text(upper);
         group.line(format!("ER {seed} {id} {level} {probe} {upper} {cap}"));
     }
@@ -293,7 +358,19 @@ fn positions(group: &mut Group) {
         }
     }
     for i in [0_u64, 1, 2, (1 << 31) - 1, 1 << 31, (1 << 31) + 1, (1 << 32) - 1] {
-        for j in [0, 1, 2, 32_767, 32_768, 65_534, 65_535, 65_536, 65_537, 1 << 32, u64::MAX] {
+        for j in [
+            0,
+            1,
+            2,
+            32_767,
+            32_768,
+            65_534,
+            65_535,
+            65_536,
+            65_537,
+            1 << 32,
+            u64::MAX,
+        ] {
             group.line(format!("PHB {i} {j}"));
         }
     }
@@ -307,14 +384,23 @@ fn positions(group: &mut Group) {
     group.section();
     for k in 0..128 {
         let power = 1_u128 << k;
-        for p in [power - 1, power, power + 1, power | (power >> 1), power | (power >> 2)] {
+        for p in [
+            power - 1,
+            power,
+            power + 1,
+            power | (power >> 1),
+            power | (power >> 2),
+        ] {
             let p = group.random.text(p);
             group.line(format!("PHINV {p}"));
         }
         // Markers with no delimiter, and one delimiter at each place.
         group.line(format!("PHINV {}", u128::MAX >> k));
         group.line(format!("PHINV {}", u128::MAX - power));
-        group.line(format!("PHINV {}", (0xaaaa_aaaa_aaaa_aaaa_aaaa_aaaa_aaaa_aaaa_u128) >> k));
+        group.line(format!(
+            "PHINV {}",
+            (0xaaaa_aaaa_aaaa_aaaa_aaaa_aaaa_aaaa_aaaa_u128) >> k
+        ));
     }
     for p in 984_263_330..=984_263_350 {
         group.line(format!("PHINV {p}"));
@@ -337,7 +423,22 @@ fn positions(group: &mut Group) {
 
 fn budgets(group: &mut Group) {
     const EXPONENTS: [u64; 16] = [
-        0, 1, 2, 3, 4, 8, 9, 10, 63, 64, 65, 1_024, 4_095, 4_096, 4_097, u32::MAX as u64,
+        0,
+        1,
+        2,
+        3,
+        4,
+        8,
+        9,
+        10,
+        63,
+        64,
+        65,
+        1_024,
+        4_095,
+        4_096,
+        4_097,
+        u32::MAX as u64,
     ];
     group.section();
     for level in 0..=20 {
@@ -379,7 +480,11 @@ fn budgets(group: &mut Group) {
             4 | 5 => (level >> group.random.below(64)).wrapping_add(group.random.pick(&[u64::MAX, 0, 1])),
             _ => group.random.below(level.max(1)),
         };
-        let e = if group.random.once_in(2) { group.random.pick(&EXPONENTS) } else { group.random.below(40) };
+        let e = if group.random.once_in(2) {
+            group.random.pick(&EXPONENTS)
+        } else {
+            group.random.below(40)
+        };
         let c = match group.random.below(4) {
             0 => group.random.limit(),
             1 => 0,
