@@ -1,0 +1,1 @@
+-- Laws of numbers of two words. Assumes nothing.
