@@ -1,8 +1,8 @@
 -- Laws of phi and of its inverse. Assumes nothing.
 use mathlib.Core.Bool.{Bool, true, false}
-use mathlib.Core.Path.{_≡_, refl, ap, sym, subst, _∙_}
+use mathlib.Core.Path.{_≡_, refl, ap, ap₂, sym, subst, _∙_}
 use Prim.Native.Nat.{ℕ, zero, suc, _+_, _*_, _-_, _/_, _%_, _^_, _≤_, _<_}
-use native.Mathlib.Nat.{pow-suc, pow-zero, add-mul, mul-le-mul-right, lt-of-not-le}
+use native.Mathlib.Nat.{pow-suc, pow-zero, add-mul, mul-le-mul, mul-le-mul-left, mul-le-mul-right, lt-of-not-le, lt-of-lt-of-le, le-trans, le-of-eq}
 use native.Mathlib.Omega.{arith}
 use native.Mathlib.Numerals.{add-one}
 use native.Mathlib.Decide.{decLe}
@@ -13,7 +13,7 @@ use borrow.Author.Tests.{lt-ltb, le-ltb}
 use Rattle.probe.specs.Pick.{pick}
 use Rattle.probe.specs.Length.{bitsOf}
 use Rattle.probe.specs.Phi.{pairs, phi, Coords, gap, at, parse, start, coordsOf}
-use Rattle.probe.specs.LengthLaws.{Top, Has, has-top, bits-top}
+use Rattle.probe.specs.LengthLaws.{Top, Has, has-top, bits-top, bits-below, bits-fits}
 
 -- ---- a parse by quarters of what the bits can hold
 
@@ -217,3 +217,31 @@ coords-sound zero i j e = never e
 coords-sound (suc p) i j e =
     let q = has-top (suc p) (omega arith) in
     start-sound (suc p) (q .t) i j (q .top) (ap (λ (n : ℕ). start n (suc p)) (sym (q .bits)) ∙ e)
+
+-- ---- how large a position is
+
+pub phi-pos : (i j : ℕ) → 0 < i → 0 < phi i j
+unfolding phi
+phi-pos i j h = omega arith
+
+-- more than m bits make a number of at least 2 ^ m
+pub phi-over : (m i j : ℕ) → 0 < i → 0 < j → m < 2 * bitsOf j + 1 + bitsOf i → 2 ^ m ≤ phi i j
+phi-over m i j hi hj l = go (decLe (2 ^ m) (phi i j))
+  where
+    go : Dec (2 ^ m ≤ phi i j) → 2 ^ m ≤ phi i j
+    go (yes p) = p
+    go (no f) = absurd (omega (arith, bits-below (phi i j) m (lt-of-not-le f), phi-bits i j hi hj))
+
+pub phi-fits : (m i j : ℕ) → 0 < i → 0 < j → 2 * bitsOf j + 1 + bitsOf i ≤ m → phi i j < 2 ^ m
+phi-fits m i j hi hj l = bits-fits (phi i j) m (omega (arith, phi-bits i j hi hj))
+
+-- "phi(i, j) < 16 * i * j^2"
+pub phi-bound : (i j : ℕ) → 0 < i → 0 < j → phi i j < 16 * i * (j * j)
+phi-bound i j hi hj =
+    let p = has-top i hi in
+    let q = has-top j hj in
+    let few : phi i j < 2 ^ (4 + p .t + (q .t + q .t)) = phi-fits (4 + p .t + (q .t + q .t)) i j hi hj (omega (arith, p .bits, q .bits)) in
+    let e : 2 ^ (4 + p .t + (q .t + q .t)) ≡ 16 * 2 ^ p .t * (2 ^ q .t * 2 ^ q .t) = pow-add 2 (4 + p .t) (q .t + q .t) ∙ ap₂ (λ (x y : ℕ). x * y) (pow-add 2 4 (p .t)) (pow-add 2 (q .t) (q .t)) in
+    let a : 16 * 2 ^ p .t ≤ 16 * i = mul-le-mul-left 16 (p .top .from) in
+    let b : 2 ^ q .t * 2 ^ q .t ≤ j * j = mul-le-mul (q .top .from) (q .top .from) in
+    lt-of-lt-of-le few (le-trans (le-of-eq e) (mul-le-mul a b))
