@@ -117,3 +117,7 @@ bits-before h l m some few =
     let p = has-top h some in
     let s = scaled h (2 ^ p .t) (2 ^ m) l (2 ^ (p .t + m)) (p .top .from) (p .top .below) few (pow-add 2 (p .t) m) in
     bits-top (h * 2 ^ m + l) (p .t + m) (record { from = s .0; below = s .1 }) ∙ omega (arith, p .bits)
+
+-- a number has room in one place more than its bits
+pub bits-room : (n r : ℕ) → r ≡ bitsOf n → n < 2 ^ (r + 1)
+bits-room n r e = bits-fits n (r + 1) (omega arith)

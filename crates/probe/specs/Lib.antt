@@ -22,4 +22,5 @@ pub mod Spread
 pub mod SpreadLaws
 pub mod Position
 pub mod PositionLaws
+pub mod BoundedLaws
 pub mod Vectors

@@ -1,4 +1,4 @@
--- Laws of what phi, its bounded form and its inverse answer, as their code goes. Assumes nothing.
+-- Laws of what phi and its inverse answer, as their code goes. Assumes nothing.
 use mathlib.Core.Bool.{Bool, true, false}
 use mathlib.Core.Path.{_≡_, refl, ap, ap₂, sym, subst, _∙_}
 use Prim.Native.Nat.{ℕ, zero, suc, _+_, _*_, _-_, _/_, _%_, _^_, _≤_, _<_}
@@ -8,22 +8,18 @@ use native.Mathlib.Numerals.{add-one}
 use native.Mathlib.Omega.{arith}
 use lib.Dec.{eqb, ltb}
 use lib.Pow.{pow-pos, pow-mono, pow-lt, mod-pow-add}
-use lib.Bits.{bitOr, or-shifted}
 use borrow.Author.Tests.{eqb-true, lt-ltb, le-ltb, eq-eqb, ne-eqb}
 use Rattle.probe.specs.Pick.{pick}
 use Rattle.probe.specs.Length.{bitsOf, lengthIn}
 use Rattle.probe.specs.LengthLaws.{Top, Has, has-top, bits-top, bits-zero, bits-none, bits-pos, bits-half, bits-over, bits-below}
 use Rattle.probe.specs.Phi.{pairs, phi, Coords, gap, at, parse, start, coordsOf}
 use Rattle.probe.specs.PhiLaws.{pairs-last, parse-low, parse-last, parse-bit, phi-over, phi-fits, phi-bits}
-use Rattle.probe.specs.Spread.{spreadOf}
-use Rattle.probe.specs.SpreadLaws.{marks, pairs-spread, spread-more, more, allBelow, all-at}
 use Rattle.probe.specs.Wide.{wideOf, toWide}
 use Rattle.probe.specs.WideLaws.{wide-is}
-use Rattle.probe.specs.Position.{positionOf, boundedOf, told, coordinatesOf}
+use Rattle.probe.specs.Position.{positionOf, told, coordinatesOf}
 use Rattle.probe.specs.declared.wide.Wide.{Wide}
 use Rattle.probe.specs.declared.phi.Coordinate.the-variants.{I, J}
 use Rattle.probe.specs.declared.phi.Position.the-variants as position
-use Rattle.probe.specs.declared.phi.Bounded.the-variants as bounded
 use Rattle.probe.specs.declared.phi.Coordinates.the-variants as coordinates
 
 -- ---- the pairs of j, put one after the other before the places that hold x: `rest` is left of j, and `out` holds what is below place `at`
@@ -130,7 +126,7 @@ top-pair p q d r lo hi e few = sym e ∙ ap (λ (n : ℕ). n * q + r) pair
     pair : d ≡ 2 + d % 2
     pair = omega (arith, two (decLe 2 d), four (decLe 4 d))
 
-module _ (p b : ℕ) (is : b ≡ bitsOf p) (most : bitsOf p ≤ 128) where
+module _ (p b : ℕ) (is : b ≡ bitsOf p) where
   pub reading-short : b < 2 → coordinates.Gap ≡ coordinatesOf p
   unfolding coordinatesOf coordsOf start
   reading-short h = rw (← is) (go b h)
@@ -168,9 +164,9 @@ module _ (p b : ℕ) (is : b ≡ bitsOf p) (most : bitsOf p ≤ 128) where
         let l : p < 3 * 2 ^ (b - 2) = omega (arith, w, mod-lt p (pow-pos (b - 2))) in
         sym (rw (long, lt-ltb p (3 * 2 ^ (b - 2)) l))
 
-    pub reading-start : (p / 2 ^ (b - 2) % 2 ≡ 0 → ⊥) → Reading p (b - 2) 1
+    pub reading-start : bitsOf p ≤ 128 → (p / 2 ^ (b - 2) % 2 ≡ 0 → ⊥) → Reading p (b - 2) 1
     unfolding coordsOf start
-    reading-start n =
+    reading-start most n =
         let one : p / 2 ^ (b - 2) % 2 ≡ 1 = omega arith in
         let w : p ≡ (2 + 1) * 2 ^ (b - 2) + p % 2 ^ (b - 2) = rw one at whole in
         let d : p - 3 * 2 ^ (b - 2) ≡ p % 2 ^ (b - 2) = omega (arith, w) in
@@ -227,14 +223,17 @@ module _ (p left j : ℕ) (r : Reading p left j) where
           ap (λ (x : Wide). coordinates.At x j) (wide-is w (2 ^ k + p % 2 ^ k) few u)
           ∙ sym (ap told (here ∙ ap (λ (x : ℕ). parse (suc (suc k)) x j) s ∙ parse-last k (p % 2 ^ k) j rest-low))
 
+    pub reading-place : k + 1 < 128
+    reading-place = omega (arith, r .room)
+
     -- j's next bit fits
-    pub reading-fits : 2 * j + p / 2 ^ k % 2 < 2 ^ 64
+    pub reading-fits : 2 * j + 1 < 2 ^ 64
     reading-fits =
         let m : 2 ^ suc (r .t) ≤ 2 ^ 64 = pow-mono {i = suc (r .t)} {j = 64} (omega (arith, r .room)) in
         omega (arith, m, pow-suc 2 (r .t), r .small)
 
-    pub reading-more : (p / 2 ^ (k + 1) % 2 ≡ 0 → ⊥) → Reading p k (2 * j + p / 2 ^ k % 2)
-    reading-more n =
+    with-bit : (p / 2 ^ (k + 1) % 2 ≡ 0 → ⊥) → Reading p k (2 * j + p / 2 ^ k % 2)
+    with-bit n =
         let marker : p / 2 ^ (k + 1) % 2 ≡ 1 = omega arith in
         let one : k + 1 ≡ suc k = omega arith in
         let f : p % 2 ^ suc (suc k) ≡ 1 * 2 ^ (k + 1) + (p / 2 ^ k % 2 * 2 ^ k + p % 2 ^ k) = rw marker at pair in
@@ -246,3 +245,6 @@ module _ (p left j : ℕ) (r : Reading p left j) where
           small = omega (arith, pow-suc 2 (r .t), r .small);
           same = here ∙ ap (λ (x : ℕ). parse (suc (suc k)) x j) s ∙ parse-bit k (p % 2 ^ k) j rest-low (p / 2 ^ k % 2) (omega arith) ∙ ap (parse k (p % 2 ^ k)) c;
         }
+
+    pub reading-more : (b : ℕ) → b ≡ p / 2 ^ k % 2 → (p / 2 ^ (k + 1) % 2 ≡ 0 → ⊥) → Reading p k (2 * j + b)
+    reading-more b e n = rw e (with-bit n)

@@ -6,7 +6,11 @@ ghost use Rattle.probe.specs.Phi.{pairs};
 ghost use Rattle.probe.specs.Position.{positionOf, boundedOf, coordinatesOf};
 ghost use Rattle.probe.specs.Spread.{spreadOf};
 ghost use Rattle.probe.specs.Wide.{wideOf};
-use crate::wide::{bit_at, bits, low_bits, with_bit, Wide};
+use crate::wide::Wide;
+use crate::wide::bit_at;
+use crate::wide::bits;
+use crate::wide::low_bits;
+use crate::wide::with_bit;
 use words::power::bit_length;
 
 // The coordinate that was zero.
@@ -50,11 +54,11 @@ pub fn phi(i: Wide, j: u64) -> Position
     if 128 < 2 * j_bits + 1 + i_bits {
         return Position::Overflow;
     }
-    Position::At(before(i, i_bits + 1, j))
+    Position::At(with_pairs(i, i_bits + 1, j))
 }
 
 // The pairs of j's bits before the places below `place`, which hold x.
-fn before(x: Wide, place: u64, j: u64) -> Wide
+fn with_pairs(x: Wide, place: u64, j: u64) -> Wide
     requires { ⌜ (wideOf x < 2 ^ place) × (place + 2 * bitsOf j ≤ 128) ⌝ }
     ensures { λ r. ⌜ wideOf r ≡ pairs (bitsOf j) j * 2 ^ place + wideOf x ⌝ }
 {
