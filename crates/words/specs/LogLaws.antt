@@ -9,7 +9,8 @@ use lib.Dec.{leb}
 use lib.Pow.{pow-mono}
 use lib.Count.{leadingZeros, leading-length}
 use borrow.Author.Tests.{leb-true, leb-false}
-use Rattle.words.specs.Log.{CeilLog2, pickNat, firstFrom, ceilLog2}
+use Rattle.words.specs.Log.{CeilLog2, firstFrom, ceilLog2}
+use Rattle.words.specs.Pick.{pick}
 
 -- it is one number
 pub log-unique : (n k l : ℕ) → CeilLog2 n k → CeilLog2 n l → k ≡ l
@@ -34,14 +35,14 @@ pub log-zero : CeilLog2 0 0
 log-zero = record { covers = omega arith; least = λ j g. omega arith }
 
 -- one try: either k is it, or the answer is above k
-step : (k n m r : ℕ) → CeilLog2 n m → k ≤ m → (k + 1 ≤ m → r ≡ m) → pickNat (leb n (2 ^ k)) k r ≡ m
+step : (k n m r : ℕ) → CeilLog2 n m → k ≤ m → (k + 1 ≤ m → r ≡ m) → pick (leb n (2 ^ k)) k r ≡ m
 step k n m r c lo rest = go (leb n (2 ^ k)) refl
   where
     above : leb n (2 ^ k) ≡ false → Dec (m ≤ k) → k + 1 ≤ m
     above e (yes p) = absurd (omega (arith, pow-mono p, leb-false n (2 ^ k) e, c .covers))
     above e (no f) = let less = lt-of-not-le f in omega arith
 
-    go : (t : Bool) → leb n (2 ^ k) ≡ t → pickNat t k r ≡ m
+    go : (t : Bool) → leb n (2 ^ k) ≡ t → pick t k r ≡ m
     go true e = let up = c .least k (leb-true n (2 ^ k) e) in omega arith
     go false e = rest (above e (decLe m k))
 

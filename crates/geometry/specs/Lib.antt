@@ -1,0 +1,4 @@
+pub mod Config
+pub mod ConfigLaws
+pub mod Elastic
+pub mod ElasticLaws
