@@ -1,55 +1,65 @@
--- `geometry::special::special_holds` meets its contract. Assumes nothing.
-use mathlib.Core.Path.{_≡_, refl, ap, sym, _∙_}
-use Prim.Native.Nat.{ℕ, suc, _+_, _-_, _*_, _/_, _≤_, _<_}
-use native.Mathlib.Omega.{arith}
 use borrow.Author.Needs.{needs}
-use native.Mathlib.Nat.{pos-of-dvd-of-pos}
-use Rattle.geometry.specs.PeriodLaws.{not-main, not-fallback, not-largest, is-largest}
 use Rattle.geometry.proofs.special.special_holds.Statement.{statement}
 use Rattle.geometry.proofs.special.special_holds.Tie as tie
+use Rattle.geometry.proofs.special.special_holds.Reads as reads
+use Rattle.geometry.proofs.special.special_holds.Lts as lts
+use Rattle.geometry.proofs.special.special_period.Reads as special-period-reads
 
+-- src/special.rt:104:9
 returns : tie.Need-returns
 returns c = search needs
 
+-- src/special.rt:107:9
 returns-2 : tie.Need-returns-2
 returns-2 c = search needs
 
+-- src/special.rt:110:9
+returns-3 : tie.Need-returns-3
+returns-3 c = ?
+
+-- src/special.rt:113:9
+returns-4 : tie.Need-returns-4
+returns-4 c = ?
+
+-- src/special.rt:115:16
 mul-beta : tie.Need-mul-beta
 mul-beta c = search needs
 
-sub-main : tie.Need-sub-main
-sub-main c = search needs
+-- src/special.rt:116:8
+mul-if5 : tie.Need-mul-if5
+mul-if5 c = ?
 
-rem-main : tie.Need-rem-main
-rem-main c = search needs
+-- src/special.rt:116:23
+sub-if5 : tie.Need-sub-if5
+sub-if5 c = search needs
 
-returns-3 : tie.Need-returns-3
-returns-3 c = not-main _ _ _ _ _ _ (c .if3 .taken)
-
-rem-half : tie.Need-rem-half
-rem-half c = search needs
-
-returns-4 : tie.Need-returns-4
-returns-4 c = not-fallback _ _ _ _ _ _ (c .if4 .taken)
-
-greatest-common-divisor-requires : tie.Need-greatest-common-divisor-requires
-greatest-common-divisor-requires c κs = search needs
-
-div-period : tie.Need-div-period
-div-period c = omega (arith, pos-of-dvd-of-pos (c .greatest-common-divisor .ensures .holds .right) (c .before .before .before .before .before .pre .3))
-
-div-more : tie.Need-div-more
-div-more c = search needs
-
+-- src/special.rt:117:9
 returns-5 : tie.Need-returns-5
-returns-5 c =
-    let s = c .before .before .before .before .before .before .pre in
-    is-largest _ _ _ _ _ _ _ (s .0) (s .1) (s .3) (c .before .greatest-common-divisor .ensures) (omega arith) (omega arith) (s .4) (c .before .before .before .if3 .left) (c .before .before .if4 .left) (c .if5 .taken)
+returns-5 c = ?
 
+-- src/special.rt:119:8
+mul-if6 : tie.Need-mul-if6
+mul-if6 c = ?
+
+-- src/special.rt:120:9
 returns-6 : tie.Need-returns-6
-returns-6 c =
-    let s = c .before .before .before .before .before .before .pre in
-    not-largest _ _ _ _ _ _ _ (s .0) (s .1) (s .3) (c .before .greatest-common-divisor .ensures) (omega arith) (c .if5 .left)
+returns-6 c = ?
+
+-- src/special.rt:122:16
+special-period-requires : tie.Need-special-period-requires
+special-period-requires c κs = search needs
+
+-- src/special.rt:122:16
+mul-past : tie.Need-mul-past
+mul-past c = ?
+
+-- src/special.rt:124:9
+returns-7 : tie.Need-returns-7
+returns-7 c = ?
+
+-- src/special.rt:99:1
+returns-8 : tie.Need-returns-8
+returns-8 c = ?
 
 pub special-holds-spec : {M : Type 1} → statement M
 special-holds-spec =
@@ -57,14 +67,15 @@ special-holds-spec =
     (tie.spec
     returns
     returns-2
-    mul-beta
-    sub-main
-    rem-main
     returns-3
-    rem-half
     returns-4
-    greatest-common-divisor-requires
-    div-period
-    div-more
+    mul-beta
+    mul-if5
+    sub-if5
     returns-5
-    returns-6)
+    mul-if6
+    returns-6
+    special-period-requires
+    mul-past
+    returns-7
+    returns-8)
