@@ -74,6 +74,13 @@ module _ (h w k a b : ℕ) (m : Meeting h w k a b) where
 pub rows-small : (h w : ℕ) → h ≤ 27 → w ≤ 10 → w * h ≤ 270
 rows-small h w p q = mul-le-mul {n₂ = 10} {m₂ = 27} q p
 
+pub period-within : (h w k : ℕ) → 0 < w → IsPeriod h w k → k ≤ w
+unfolding IsPeriod
+period-within h w k p g = g .below w (p, dvd-mul-right w h)
+
+pub product-small : (x y : ℕ) → x ≤ 4294967296 → y ≤ 54 → x * y ≤ 231928233984
+product-small x y p q = mul-le-mul {n₂ = 4294967296} {m₂ = 54} p q
+
 -- the tests of a length, one by one
 module _ (n lo hi h w s main half : ℕ) where
   main-is : 0 < h → main * (2 * h) ≡ n - s → main ≡ (n - s) / (2 * h)
