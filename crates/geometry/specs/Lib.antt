@@ -23,3 +23,4 @@ pub mod Funnel
 pub mod FunnelLaws
 pub mod FunnelExist
 pub mod FunnelGate
+pub mod FunnelGateLaws
