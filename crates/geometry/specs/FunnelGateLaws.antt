@@ -15,6 +15,8 @@ use Rattle.geometry.specs.declared.config.Gated.the-variants.{Passed, Re
 use Rattle.geometry.specs.declared.funnel.FunnelPlan.{FunnelPlan}
 use Rattle.geometry.specs.declared.funnel.FunnelPlanned.{FunnelPlanned}
 use Rattle.geometry.specs.declared.funnel.FunnelPlanned.the-variants.{Plan, Refused}
+use Rattle.geometry.specs.declared.funnel.SpecialGated.{SpecialGated}
+use Rattle.geometry.specs.declared.funnel.SpecialGated.the-variants.{Length, Refused as LengthRefused}
 use Rattle.geometry.specs.Config.{Configured, refuseIf, configThen, configGate}
 use Rattle.geometry.specs.ConfigLaws.{config-pass, config-refused, config-passed, config-facts, config-gate-facts}
 use Rattle.geometry.specs.Says.{Says}
@@ -97,7 +99,7 @@ planned-unique n e old (Refused g) (Refused h) a b i j = let k = sym (i .0) ∙ 
 module _ (n e : ℕ) (h : configGate n e ≡ Passed) (l : 3 ≤ e) where
   pub special-none : (s : ℕ) → s ≡ 0 → FoundFor n e s → funnelGate n e ≡ GateRefused gate.Layout
   unfolding FoundFor
-  special-none zero z f = gate-layout n e h l (λ y. f (y .0 .«special_len») (y .2 .numbers .special .holds))
+  special-none zero z f = gate-layout n e h l (λ y. f (y .0 .«special_len») (y .2 .special .largest .holds))
   special-none (suc s) z f = absurd (omega arith)
 
   pub special-some : (s : ℕ) → (s ≡ 0 → ⊥) → FoundFor n e s → Configured n e × (3 ≤ e) × IsLargest (SpecialLength n e) s
@@ -107,3 +109,15 @@ module _ (n e : ℕ) (h : configGate n e ≡ Passed) (l : 3 ≤ e) where
 
 pub special-passes : (n e s : ℕ) → Configured n e → 3 ≤ e → IsLargest (SpecialLength n e) s → funnelGate n e ≡ Passed
 special-passes n e s c h l = gate-pass n e (special-layout n e s c h l)
+
+pub special-or-passed : (n e : ℕ) (r : SpecialGated) (s : ℕ) → SpecialOr n e r → r ≡ Length s → Passed ≡ funnelGate n e
+unfolding SpecialOr
+special-or-passed n e r s o h = let f : SpecialOr n e (Length s) = rw h at o in sym (special-passes n e s (f .0) (f .1) (f .2))
+
+pub special-or-refused : (n e : ℕ) (r : SpecialGated) (g : Gate) → SpecialOr n e r → r ≡ LengthRefused g → GateRefused g ≡ funnelGate n e
+unfolding SpecialOr
+special-or-refused n e r g o h = let f : SpecialOr n e (LengthRefused g) = rw h at o in sym f
+
+pub special-or-length : (n e : ℕ) (r : SpecialGated) (s : ℕ) → SpecialOr n e r → r ≡ Length s → Configured n e × (3 ≤ e) × IsLargest (SpecialLength n e) s
+unfolding SpecialOr
+special-or-length n e r s o h = let f : SpecialOr n e (Length s) = rw h at o in f

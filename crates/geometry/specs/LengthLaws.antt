@@ -1,4 +1,5 @@
 -- Laws of the bounds of the special length: what every such length says of n and e. Assumes nothing.
+use mathlib.Core.Bool.{Bool}
 use mathlib.Core.Path.{_≡_}
 use Prim.Native.Nat.{ℕ, zero, suc, _+_, _-_, _*_, _/_, _^_, _≤_, _<_, min, max}
 use native.Mathlib.Nat.{lt-of-not-le, le-div-iff-mul-le, mul-le-mul, mul-le-mul-left}
@@ -7,7 +8,8 @@ use native.Mathlib.Omega.{arith}
 use lib.Pow.{pow-mono, pow-pos}
 use Rattle.words.specs.Quotient.{ceilDiv}
 use Rattle.geometry.specs.Config.{Configured}
-use Rattle.geometry.specs.Special.{loglog, specialLeast, specialMost, SpecialLength, Found, FoundFor}
+use Rattle.geometry.specs.Special.{loglog, specialLeast, specialMost, SpecialLength, Found, FoundFor, Measured, SpecialMeasured}
+use Rattle.geometry.specs.Says.{Says}
 use Rattle.geometry.specs.LoglogLaws.{Loglog, loglog-facts}
 
 pub least-two : (n e : ℕ) → 2 ≤ specialLeast n e
@@ -78,3 +80,7 @@ pub found-for : (n e lo hi w r : ℕ) → lo ≡ specialLeast n e → hi ≡ spe
 unfolding Found FoundFor
 found-for n e lo hi w zero a b c f = rw (a, b, c) at f
 found-for n e lo hi w (suc r) a b c f = rw (a, b, c) at f
+
+-- the test at the bounds of n and e
+pub measured-at : (n e lo hi w s main half : ℕ) (b : Bool) → lo ≡ specialLeast n e → hi ≡ specialMost n e → w ≡ 2 * loglog n → Says b (Measured n lo hi (2 * e) w s main half) → Says b (SpecialMeasured n e s main half)
+measured-at n e lo hi w s main half b p q r h = rw (p, q, r) at h

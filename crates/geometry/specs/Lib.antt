@@ -24,3 +24,5 @@ pub mod FunnelLaws
 pub mod FunnelExist
 pub mod FunnelGate
 pub mod FunnelGateLaws
+pub mod ZeroLaws
+pub mod FunnelTestLaws

@@ -109,10 +109,10 @@ module _ (n lo hi h w s main half : ℕ) where
     measured two a b x y f =
         record {
           largest =
-            largest-if n lo hi h w l p s k
-            (record { from = a; to = b; main = subst (λ (z : ℕ). 2 * h ∣ z) x (dvd-mul-left (2 * h) main); fallback = subst (λ (z : ℕ). w ∣ z) y (dvd-mul-left w half); some = omega arith })
-            g
-            (omega arith);
+              largest-if n lo hi h w l p s k
+              (record { from = a; to = b; main = subst (λ (z : ℕ). 2 * h ∣ z) x (dvd-mul-left (2 * h) main); fallback = subst (λ (z : ℕ). w ∣ z) y (dvd-mul-left w half); some = omega arith })
+              g
+              (omega arith);
           is-main = main-is p x;
           is-half = half-is q y;
         }

@@ -28,6 +28,15 @@ pub record Special (n lo hi beta w s : ℕ) : Type 0 where
 abbrev pub SpecialLength : ℕ → ℕ → ℕ → Type 0
 SpecialLength n e s = Special n (specialLeast n e) (specialMost n e) (2 * e) (2 * loglog n) s
 
+-- "Special length s is the largest with .."; before it lie `main` buckets of beta, and its smaller half is `half` buckets of w
+pub record Measured (n lo hi beta w s main half : ℕ) : Type 0 where
+  pub largest : IsLargest (Special n lo hi beta w) s
+  pub is-main : main ≡ (n - s) / beta
+  pub is-half : half ≡ s / 2 / w
+
+abbrev pub SpecialMeasured : ℕ → ℕ → ℕ → ℕ → ℕ → Type 0
+SpecialMeasured n e s main half = Measured n (specialLeast n e) (specialMost n e) (2 * e) (2 * loglog n) s main half
+
 -- what a search answers: the largest, or 0 where there is none
 unfoldable pub Found : (n lo hi beta w r : ℕ) → Type 0
 Found n lo hi beta w zero = (z : ℕ) → Special n lo hi beta w z → ⊥
@@ -47,9 +56,3 @@ FoundFor n e (suc r) = IsLargest (SpecialLength n e) (suc r)
 -- the smallest number of buckets whose halves w divides
 unfoldable pub IsPeriod : (h w k : ℕ) → Type 0
 IsPeriod h w k = IsSmallest (λ j. (0 < j) × (w ∣ j * h)) k
-
--- s is the largest, with `main` buckets before it and `half` buckets in its smaller half
-pub record Measured (n lo hi beta w s main half : ℕ) : Type 0 where
-  pub largest : IsLargest (Special n lo hi beta w) s
-  pub is-main : main ≡ (n - s) / beta
-  pub is-half : half ≡ s / 2 / w

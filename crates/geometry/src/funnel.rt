@@ -8,18 +8,16 @@ ghost use Rattle.geometry.specs.Extreme.{IsLargest};
 ghost use Rattle.geometry.specs.Special.{SpecialLength};
 ghost use Rattle.geometry.specs.Funnel.{PlanNumbers, IsPlan};
 ghost use Rattle.geometry.specs.FunnelGate.{funnelGate, isPlan, Planned, SpecialOr};
-use crate::config::config_gate;
-use crate::config::max_insertions;
 use crate::config::Gated;
 use crate::config::LARGEST_N;
+use crate::config::config_gate;
+use crate::config::max_insertions;
 use crate::counts::clear;
 use crate::counts::fill_counts;
 use crate::counts_test::plan_counts_hold;
 use crate::special::base_two_loglog_ceiling;
-use crate::special::special_holds;
-use crate::special::special_least;
 use crate::special::special_len_of;
-use crate::special::special_most;
+use crate::special::special_parts_hold;
 use refusal::Gate;
 
 // The numbers of a plan; the counts of its levels are lent beside it, 118 of them, 0 past the last level.
@@ -87,13 +85,19 @@ pub fn is_funnel_plan(n: u64, e: u32, plan: FunnelPlan, counts: &[u64; 118]) -> 
     if 27 < e {
         return false;
     }
-    if numbers_hold(n, e, plan) {
-        let t = plan.total_buckets;
-        let levels = plan.alpha as usize;
-        let first = plan.first_bucket_count;
-        return plan_counts_hold(t, levels, first, counts);
+    if numbers_hold(n, e, plan) {} else {
+        return false;
     }
-    false
+    let g = plan.loglog_ceiling;
+    let s = plan.special_len;
+    let t = plan.total_buckets;
+    let half = plan.fallback_bucket_count;
+    if special_parts_hold(n, e as u64, g, s, t, half) {} else {
+        return false;
+    }
+    let levels = plan.alpha as usize;
+    let first = plan.first_bucket_count;
+    plan_counts_hold(t, levels, first, counts)
 }
 
 // The gate with what it finds on the way: where there is a special length there is a plan.
@@ -143,41 +147,40 @@ fn write_plan(n: u64, e: u32, s: u64, counts: &mut [u64; 118]) -> FunnelPlan
     }
 }
 
-// Whether these are the numbers of the plan, the cheap ones first.
+// Whether these are the plain numbers of the plan.
 fn numbers_hold(n: u64, e: u32, plan: FunnelPlan) -> bool
-    requires { ⌜ (2 ≤ n) × (n ≤ 4294967296) × (3 ≤ e) × (e ≤ 27) ⌝ }
+    requires { ⌜ (n ≤ 4294967296) × (e ≤ 27) ⌝ }
     ensures { λ r. ⌜ Says r (PlanNumbers n e plan) ⌝ }
 {
     let x = e as u64;
-    if plan.alpha != 4 * x + 10 {
+    let alpha = plan.alpha;
+    if alpha != 4 * x + 10 {
         return false;
     }
-    if plan.beta != 2 * x {
+    let beta = plan.beta;
+    if beta != 2 * x {
         return false;
     }
-    let g = base_two_loglog_ceiling(n);
-    if plan.loglog_ceiling != g {
+    let g = plan.loglog_ceiling;
+    if g != base_two_loglog_ceiling(n) {
         return false;
     }
-    if plan.fallback_bucket_width != 2 * g {
+    let width = plan.fallback_bucket_width;
+    if width != 2 * g {
         return false;
     }
     let s = plan.special_len;
-    if plan.special_primary_len != s - s / 2 {
+    let primary = plan.special_primary_len;
+    if primary != s - s / 2 {
         return false;
     }
-    if plan.special_fallback_len != s / 2 {
+    let fallback = plan.special_fallback_len;
+    if fallback != s / 2 {
         return false;
     }
-    if plan.maximum != max_insertions(n, e) {
+    let maximum = plan.maximum;
+    if maximum != max_insertions(n, e) {
         return false;
     }
-    let lo = special_least(n, x, g);
-    let hi = special_most(n, x);
-    let main = plan.total_buckets;
-    let half = plan.fallback_bucket_count;
-    if special_holds(n, lo, hi, x, 2 * g, s, main, half) {
-        return true;
-    }
-    false
+    true
 }

@@ -3,7 +3,7 @@
 ghost use mathlib.Core.Path.{_≡_};
 ghost use Prim.Native.Nat.{ℕ, _*_, _<_, _≤_};
 ghost use Rattle.geometry.specs.Says.{Says};
-ghost use Rattle.geometry.specs.Special.{Below, Found, FoundFor, IsPeriod, Measured, loglog, specialLeast, specialMost};
+ghost use Rattle.geometry.specs.Special.{Below, Found, FoundFor, IsPeriod, Measured, SpecialMeasured, loglog, specialLeast, specialMost};
 use words::power::ceil_div_pow2;
 use words::power::ceil_log2;
 use words::power::floor_div_pow2;
@@ -31,7 +31,7 @@ pub fn base_two_loglog_ceiling(n: u64) -> u64
 }
 
 // The lower bound, by g.
-pub fn special_least(n: u64, e: u64, g: u64) -> u64
+fn special_least(n: u64, e: u64, g: u64) -> u64
     requires { ⌜ (e ≤ 27) × (g ≤ 5) × (g ≡ loglog n) ⌝ }
     ensures { λ r. ⌜ r ≡ specialLeast n e ⌝ }
 {
@@ -40,7 +40,7 @@ pub fn special_least(n: u64, e: u64, g: u64) -> u64
 }
 
 // The upper bound.
-pub fn special_most(n: u64, e: u64) -> u64
+fn special_most(n: u64, e: u64) -> u64
     requires { ⌜ (n ≤ 4294967296) × (e ≤ 27) ⌝ }
     ensures { λ r. ⌜ r ≡ specialMost n e ⌝ }
 {
@@ -94,9 +94,19 @@ fn search_down(n: u64, lo: u64, hi: u64, h: u64, w: u64, top: u64) -> u64
     0
 }
 
-// Whether s is that length, with `main` buckets before it and `half` buckets in its fallback: it lies in its range, both
+// Whether s is the special length of n and e, with `main` buckets before it and `half` buckets in its fallback.
+pub fn special_parts_hold(n: u64, e: u64, g: u64, s: u64, main: u64, half: u64) -> bool
+    requires { ⌜ (n ≤ 4294967296) × (3 ≤ e) × (e ≤ 27) × (g ≡ loglog n) ⌝ }
+    ensures { λ r. ⌜ Says r (SpecialMeasured n e s main half) ⌝ }
+{
+    let lo = special_least(n, e, g);
+    let hi = special_most(n, e);
+    special_holds(n, lo, hi, e, 2 * g, s, main, half)
+}
+
+// Whether s is the largest of its range, with `main` buckets before it and `half` buckets in its fallback: it lies in its range, both
 // parts are filled, and one period more is past the range. Products stand where a division would.
-pub fn special_holds(n: u64, lo: u64, hi: u64, h: u64, w: u64, s: u64, main: u64, half: u64) -> bool
+fn special_holds(n: u64, lo: u64, hi: u64, h: u64, w: u64, s: u64, main: u64, half: u64) -> bool
     requires { ⌜ (hi ≤ n) × (n ≤ 4294967296) × (0 < h) × (h ≤ 27) × (0 < w) × (w ≤ 10) × (2 ≤ lo) ⌝ }
     ensures { λ r. ⌜ Says r (Measured n lo hi (2 * h) w s main half) ⌝ }
 {

@@ -1,54 +1,47 @@
+-- `geometry::counts_test::zero_from` meets its contract. The invariant: how many entries so far are others than 0. Assumes nothing.
+use Prim.Native.Nat.{_-_}
+use native.Mathlib.Omega.{arith}
+use lib.ListN.{length}
+use mathlib.Core.Path.{subst, sym}
+use Rattle.geometry.specs.ZeroLaws.{Others, others-start, others-more, others-none}
 use Rattle.geometry.proofs.counts_test.zero_from.Statement.{statement}
 use Rattle.geometry.proofs.counts_test.zero_from.Tie as tie
-use Rattle.geometry.proofs.counts_test.zero_from.Reads as reads
-use Rattle.geometry.proofs.counts_test.zero_from.Lts as lts
-use Rattle.geometry.proofs.counts_test.one_unless_zero.Reads as one-unless-zero-reads
 
 abbrev Inv-loop : tie.InvT-loop
-Inv-loop counts from others₀ i₀ others i = ?
+Inv-loop counts from others₀ i₀ others i = Others counts from i others
 
 abbrev μ-loop : tie.MeasureT-loop
-μ-loop counts from others₀ i₀ others i = ?
+μ-loop counts from others₀ i₀ others i = length counts - i
 
--- src/counts_test.rt:36:5
 loop-holds : tie.Need-loop-holds Inv-loop μ-loop
-loop-holds c = ?
+loop-holds c = others-start _ _ (c .before .pre)
 
--- src/counts_test.rt:37:35
 mul-one-unless-zero : tie.Need-mul-one-unless-zero Inv-loop μ-loop
-mul-one-unless-zero c = ?
+mul-one-unless-zero c = omega arith
 
--- src/counts_test.rt:37:35
 shared-slice-read-one-unless-zero : tie.Need-shared-slice-read-one-unless-zero Inv-loop μ-loop
-shared-slice-read-one-unless-zero c = ?
+shared-slice-read-one-unless-zero c = omega arith
 
--- src/counts_test.rt:37:19
 one-unless-zero-requires : tie.Need-one-unless-zero-requires Inv-loop μ-loop
-one-unless-zero-requires c κs = ?
+one-unless-zero-requires c κs = omega arith
 
--- src/counts_test.rt:37:9
 add-others : tie.Need-add-others Inv-loop μ-loop
-add-others c = ?
+add-others c = omega (arith, c .one-unless-zero .ensures)
 
--- src/counts_test.rt:38:9
 add-i : tie.Need-add-i Inv-loop μ-loop
-add-i c = ?
+add-i c = omega arith
 
--- src/counts_test.rt:36:5
 loop-less : tie.Need-loop-less Inv-loop μ-loop
-loop-less c = ?
+loop-less c = omega arith
 
--- src/counts_test.rt:36:5
 loop-again : tie.Need-loop-again Inv-loop μ-loop
-loop-again c = ?
+loop-again c = rw (c .one-unless-zero .ensures) (others-more _ _ (c .before .before .before .loop .inv) (c .before .before .loop-test .taken))
 
--- src/counts_test.rt:41:9
 returns : tie.Need-returns Inv-loop μ-loop
-returns c = ?
+returns c = others-none _ _ (c .before .before .loop .inv) (c .before .loop-test .left) (c .if1 .taken)
 
--- src/counts_test.rt:30:1
 returns-2 : tie.Need-returns-2 Inv-loop μ-loop
-returns-2 c = ?
+returns-2 c = c .before .before .loop .inv .some (c .if1 .left)
 
 pub zero-from-spec : {M : Type 1} → statement M
 zero-from-spec =

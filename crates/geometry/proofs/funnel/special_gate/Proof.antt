@@ -1,42 +1,39 @@
+-- `geometry::funnel::special_gate` meets its contract: each return is a law of the gate. Assumes nothing.
 use borrow.Author.Needs.{needs}
+use mathlib.Core.Path.{sym, _∙_}
+use Rattle.geometry.specs.ConfigLaws.{config-gate-facts}
+use Rattle.geometry.specs.FunnelGate.{SpecialOr}
+use Rattle.geometry.specs.FunnelGateLaws.{gate-config, gate-exponent, special-none, special-some}
 use Rattle.geometry.proofs.funnel.special_gate.Statement.{statement}
 use Rattle.geometry.proofs.funnel.special_gate.Tie as tie
-use Rattle.geometry.proofs.funnel.special_gate.Reads as reads
-use Rattle.geometry.proofs.funnel.special_gate.Lts as lts
-use Rattle.geometry.proofs.config.config_gate.Reads as config-gate-reads
-use Rattle.geometry.proofs.special.special_len_of.Reads as special-len-of-reads
 
--- src/funnel.rt:103:9
 config-gate-requires : tie.Need-config-gate-requires
 config-gate-requires c κs = search needs
 
--- src/funnel.rt:105:24
 enum-known-config : tie.Need-enum-known-config
 enum-known-config c = search needs
 
--- src/funnel.rt:107:16
 enum-told : tie.Need-enum-told
 enum-told c = search needs
 
--- src/funnel.rt:108:17
 returns : tie.Need-returns
-returns c = ?
+unfolding SpecialOr
+returns c = gate-exponent _ _ (sym (c .before .before .before .config-gate .ensures) ∙ c .before .enum-told .given .1) (c .if1 .taken)
 
--- src/funnel.rt:110:17
 special-len-of-requires : tie.Need-special-len-of-requires
-special-len-of-requires c κs = ?
+special-len-of-requires c κs = (config-gate-facts _ _ (sym (c .before .before .before .config-gate .ensures) ∙ c .before .enum-told .given .1) .most, c .if1 .left)
 
--- src/funnel.rt:112:17
 returns-2 : tie.Need-returns-2
-returns-2 c = ?
+unfolding SpecialOr
+returns-2 c = special-none _ _ (sym (c .before .before .before .before .before .config-gate .ensures) ∙ c .before .before .before .enum-told .given .1) (c .before .before .if1 .left) _ (c .if2 .taken) (c .before .special-len-of .ensures)
 
--- src/funnel.rt:100:1
 returns-3 : tie.Need-returns-3
-returns-3 c = ?
+unfolding SpecialOr
+returns-3 c = gate-config _ _ _ (sym (c .before .before .before .config-gate .ensures) ∙ c .before .config .given .1)
 
--- src/funnel.rt:100:1
 returns-4 : tie.Need-returns-4
-returns-4 c = ?
+unfolding SpecialOr
+returns-4 c = special-some _ _ (sym (c .before .before .before .before .before .config-gate .ensures) ∙ c .before .before .before .enum-told .given .1) (c .before .before .if1 .left) _ (c .if2 .left) (c .before .special-len-of .ensures)
 
 pub special-gate-spec : {M : Type 1} → statement M
 special-gate-spec =
