@@ -101,12 +101,12 @@ fn answer(line: &[u8], length: usize, out: &mut [u8], at: usize) -> usize {
     if line.len() < length {
         return put(out, at, b"?\n");
     }
-    let to = answer_query(query(&line[..length]), out, at);
+    let to = answer_query(parse(&line[..length]), out, at);
     put_byte(out, to, b'\n')
 }
 
 // What a line asks: a letter, and two plain decimals behind single spaces.
-fn query(line: &[u8]) -> Query {
+fn parse(line: &[u8]) -> Query {
     if line.len() < 2 {
         return Query::Unknown;
     }
