@@ -51,7 +51,8 @@ module _ (n e s : ℕ) (c : Configured n e) (h : 3 ≤ e) (l : IsLargest (Specia
       record {
         configured = c;
         exponent = h;
-        numbers = record { is-maximum = refl; is-alpha = refl; is-beta = refl; is-loglog = refl; is-width = refl; special = l; is-primary = refl; is-fallback = refl; is-buckets = refl; is-total = refl };
+        numbers = record { is-maximum = refl; is-alpha = refl; is-beta = refl; is-loglog = refl; is-width = refl; is-primary = refl; is-fallback = refl };
+        special = record { largest = l; is-main = refl; is-half = refl };
         levels = k;
       }
 
@@ -110,7 +111,7 @@ layout-dec n e = go (decLe 2 n) (decLe n 4294967296) (decLe 3 e) (largest-dec (S
     go (no k) b c s = no (λ l. k (l .2 .configured .least))
     go (yes a) (no k) c s = no (λ l. k (l .2 .configured .most))
     go (yes a) (yes b) (no k) s = no (λ l. k (l .2 .exponent))
-    go (yes a) (yes b) (yes c) (no k) = no (λ l. k (l .0 .«special_len», l .2 .numbers .special))
+    go (yes a) (yes b) (yes c) (no k) = no (λ l. k (l .0 .«special_len», l .2 .special .largest))
 
 -- equality of lists and of plans can be decided
 list-dec : (xs ys : List ℕ) → Dec (xs ≡ ys)

@@ -1,5 +1,7 @@
 pub mod Config
 pub mod ConfigLaws
+pub mod Elastic
+pub mod ElasticLaws
 pub mod Extreme
 pub mod ExtremeLaws
 pub mod Says
@@ -23,3 +25,6 @@ pub mod Funnel
 pub mod FunnelLaws
 pub mod FunnelExist
 pub mod FunnelGate
+pub mod FunnelGateLaws
+pub mod ZeroLaws
+pub mod FunnelTestLaws

@@ -3,12 +3,12 @@
 ghost use mathlib.Core.Path.{_≡_};
 ghost use Prim.Native.Nat.{ℕ, _<_, _≤_};
 ghost use lib.Dec.{leb};
-ghost use lib.ListN.{length};
+ghost use lib.ListN.{length, replicate};
 ghost use Rattle.geometry.specs.Extreme.{IsLargest, IsSmallest};
 ghost use Rattle.geometry.specs.Counts.{low, high, lowSum, highSum, Follows, First};
 ghost use Rattle.geometry.specs.Filled.{Fits, Filled};
 
-// The counts of the levels, for at least as many buckets, at the front of a slice; the entries behind them become 0.
+// The counts of the levels, for at least as many buckets, at the front of a slice.
 pub fn fill_counts(t: u64, levels: usize, counts: &mut [u64])
     requires { ⌜ (0 < levels) × (levels ≤ length (now counts)) × (levels ≤ t) ⌝ }
     ensures { λ r. ⌜ Filled t levels (now (counts .entry)) (now (counts .exit)) ⌝ }
@@ -148,4 +148,15 @@ pub fn maximum_next_bucket_count(x: u64) -> u64
         return 0;
     }
     x - x / 4 - (x % 4 + 3) / 4 + 1
+}
+
+// All entries become 0.
+pub fn clear(counts: &mut [u64])
+    ensures { λ r. ⌜ now (counts .exit) ≡ replicate (length (now (counts .entry))) 0 ⌝ }
+{
+    let mut i = 0;
+    while i < counts.len() {
+        counts[i] = 0;
+        i += 1;
+    }
 }
