@@ -11,3 +11,7 @@
 
 pub mod config;
 pub mod elastic;
+mod counts;
+mod counts_test;
+pub mod funnel;
+mod special;

@@ -102,5 +102,14 @@ fn command(line: &[u8], out: &mut [u8], at: usize) -> usize {
     if is_word(line, 0, end, b"EL") {
         return layouts::elastic(line, args, out, at);
     }
+    if is_word(line, 0, end, b"FL") {
+        return layouts::funnel(line, args, out, at);
+    }
+    if is_word(line, 0, end, b"PHI") {
+        return probes::position(line, args, out, at);
+    }
+    if is_word(line, 0, end, b"PHINV") {
+        return probes::coordinates(line, args, out, at);
+    }
     probes::command(line, end, args, out, at)
 }
