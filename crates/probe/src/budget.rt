@@ -13,7 +13,7 @@ pub enum Budgeted {
 }
 
 // c * min(ceil(log2(ceil(level/free)))^2, e): the Rust's `elastic_dyadic_probe_budget`. A budget of 0 is a budget.
-pub fn budget(free: u64, level: u64, e: u32, c: u64) -> Budgeted
+pub fn budget(free: u64, level: u64, e: u64, c: u64) -> Budgeted
     ensures { λ r. ⌜ r ≡ budgetOf free level e c ⌝ }
 {
     if free == 0 {
@@ -26,7 +26,7 @@ pub fn budget(free: u64, level: u64, e: u32, c: u64) -> Budgeted
         return Budgeted::Budget { reason: 2 };
     }
     let log = ceil_log2((level - 1) / free + 1);
-    let capped = smaller(log * log, e as u64);
+    let capped = smaller(log * log, e);
     if 0 < multiply_high(c, capped) {
         return Budgeted::Budget { reason: 3 };
     }
