@@ -23,4 +23,5 @@ pub mod SpreadLaws
 pub mod Position
 pub mod PositionLaws
 pub mod BoundedLaws
+pub mod InverseLaws
 pub mod Vectors
