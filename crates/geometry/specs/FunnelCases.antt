@@ -1,14 +1,14 @@
 -- The plan of the smallest funnel table, n = 144 and e = 3: every level one bucket. Assumes nothing.
-use mathlib.Core.Path.{_≡_, refl, subst}
-use mathlib.Core.List.{List, _++_}
-use Prim.Native.Nat.{ℕ, zero, suc, _+_, _-_, _*_, _/_, _^_, _≤_, _<_, _∣_}
+use mathlib.Core.Path.{_≡_, refl}
+use mathlib.Core.List.{_++_}
+use Prim.Native.Nat.{ℕ, zero, suc}
 use native.Mathlib.Nat.{dvd-of-mod-eq-zero}
 use native.Mathlib.Omega.{arith}
 use lib.Dec.{lit≤}
-use lib.ListN.{length, replicate, length-replicate}
+use lib.ListN.{replicate, length-replicate}
 use Rattle.words.specs.Log.{firstFrom, ceilLog2}
 use Rattle.geometry.specs.Extreme.{IsLargest}
-use Rattle.geometry.specs.Counts.{low, high, lowSum, highSum, quarter, Counts, total}
+use Rattle.geometry.specs.Counts.{lowSum, Counts, total}
 use Rattle.geometry.specs.Chain.{Steps, Tight}
 use Rattle.geometry.specs.ChainLaws.{counts-of-test}
 use Rattle.geometry.specs.CountsExist.{lowSum-levels, highSum-zero}
@@ -61,13 +61,13 @@ special-144 : IsLargest (SpecialLength 144 3) 12
 special-144 =
     record {
       holds =
-        record {
-          from = rw least-144 (lit≤ tt);
-          to = rw most-144 (lit≤ tt);
-          main = dvd-of-mod-eq-zero 6 {n = 132} refl;
-          fallback = rw loglog-144 (dvd-of-mod-eq-zero 6 {n = 6} refl);
-          some = lit≤ tt;
-        };
+          record {
+            from = rw least-144 (lit≤ tt);
+            to = rw most-144 (lit≤ tt);
+            main = dvd-of-mod-eq-zero 6 {n = 132} refl;
+            fallback = rw loglog-144 (dvd-of-mod-eq-zero 6 {n = 6} refl);
+            some = lit≤ tt;
+          };
       above = λ z p. rw most-144 at (p .to);
     }
 

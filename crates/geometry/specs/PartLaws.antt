@@ -6,7 +6,7 @@ use native.Mathlib.Nat.{lt-of-not-le, mul-le-mul-right}
 use native.Mathlib.Decide.{decLe}
 use native.Mathlib.Omega.{arith}
 use lib.ListN.{length, take}
-use lib.Seq.{length-take-le, take-length}
+use lib.Seq.{take-length}
 use Rattle.geometry.specs.declared.funnel.FunnelPlan.{FunnelPlan}
 use Rattle.geometry.specs.Counts.{total}
 use Rattle.geometry.specs.LevelLaws.{InLevel, level-of, total-take}

@@ -1,8 +1,7 @@
 -- `geometry::counts::largest_within` meets its contract. Assumes nothing.
-use mathlib.Core.Path.{_≡_, refl, ap, sym, _∙_}
-use Prim.Native.Nat.{ℕ, suc, _+_, _-_, _*_, _/_, _≤_, _<_}
+use mathlib.Core.Path.{sym, _∙_}
+use Prim.Native.Nat.{_-_}
 use native.Mathlib.Omega.{arith}
-use borrow.Author.Needs.{needs}
 use Rattle.geometry.specs.FilledLaws.{Within, within-two, within-start, within-right, within-left, within-end}
 use Rattle.geometry.proofs.counts.largest_within.Statement.{statement}
 use Rattle.geometry.proofs.counts.largest_within.Tie as tie

@@ -1,8 +1,7 @@
 -- `geometry::counts::smallest_reaching` meets its contract. Assumes nothing.
-use mathlib.Core.Path.{_≡_, refl, ap, sym, _∙_}
-use Prim.Native.Nat.{ℕ, suc, _+_, _-_, _*_, _/_, _≤_, _<_}
+use mathlib.Core.Path.{sym, _∙_}
+use Prim.Native.Nat.{_-_}
 use native.Mathlib.Omega.{arith}
-use borrow.Author.Needs.{needs}
 use Rattle.geometry.specs.FilledLaws.{Reach, reach-start, reach-left, reach-right, reach-end}
 use Rattle.geometry.proofs.counts.smallest_reaching.Statement.{statement}
 use Rattle.geometry.proofs.counts.smallest_reaching.Tie as tie
