@@ -41,7 +41,12 @@ fn put_plan(plan: FunnelPlan, p: &mut [u64; 11]) {
 }
 
 #[no_mangle]
-pub extern "C" fn bench_funnel_plan(n: u64, e: u32, plan: &mut [u64; 11], counts: &mut [u64; 118]) -> bool {
+pub extern "C" fn bench_funnel_plan(
+    n: u64,
+    e: u32,
+    plan: &mut [u64; 11],
+    counts: &mut [u64; 118],
+) -> bool {
     match funnel_plan(n, e, counts) {
         FunnelPlanned::Refused(gate) => false,
         FunnelPlanned::Plan(p) => {
@@ -52,7 +57,12 @@ pub extern "C" fn bench_funnel_plan(n: u64, e: u32, plan: &mut [u64; 11], counts
 }
 
 #[no_mangle]
-pub extern "C" fn bench_is_funnel_plan(n: u64, e: u32, plan: &[u64; 11], counts: &[u64; 118]) -> bool {
+pub extern "C" fn bench_is_funnel_plan(
+    n: u64,
+    e: u32,
+    plan: &[u64; 11],
+    counts: &[u64; 118],
+) -> bool {
     is_funnel_plan(n, e, plan_of(plan), counts)
 }
 

@@ -24,4 +24,5 @@ pub mod Position
 pub mod PositionLaws
 pub mod BoundedLaws
 pub mod InverseLaws
+pub mod ReportLaws
 pub mod Vectors
