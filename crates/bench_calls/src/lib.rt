@@ -1,4 +1,6 @@
 // Calls for the measurements of bench/, on numbers and slices.
+mod funnels;
+
 use geometry::funnel::FunnelPlan;
 use geometry::funnel::FunnelPlanned;
 use geometry::funnel::funnel_plan;
@@ -10,7 +12,7 @@ use probe::range::funnel_draw;
 use probe::word::FunnelKey;
 use probe::word::funnel_key;
 
-fn plan_of(p: &[u64; 11]) -> FunnelPlan {
+pub fn plan_of(p: &[u64; 11]) -> FunnelPlan {
     FunnelPlan {
         maximum: p[0],
         alpha: p[1],
@@ -26,7 +28,7 @@ fn plan_of(p: &[u64; 11]) -> FunnelPlan {
     }
 }
 
-fn put_plan(plan: FunnelPlan, p: &mut [u64; 11]) {
+pub fn put_plan(plan: FunnelPlan, p: &mut [u64; 11]) {
     p[0] = plan.maximum;
     p[1] = plan.alpha;
     p[2] = plan.beta;
