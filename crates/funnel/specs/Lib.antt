@@ -5,10 +5,12 @@ pub mod EveryLaws
 pub mod FindLaws
 pub mod Insert
 pub mod InsertLaws
+pub mod OrderLaws
 pub mod Path
 pub mod PathLaws
 pub mod PlaceLaws
 pub mod PlanLaws
+pub mod ReadingLaws
 pub mod Search
 pub mod SearchLaws
 pub mod StageLaws
