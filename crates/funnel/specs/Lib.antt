@@ -3,6 +3,8 @@ pub mod Calls
 pub mod Every
 pub mod EveryLaws
 pub mod FindLaws
+pub mod Fresh
+pub mod FreshLaws
 pub mod Insert
 pub mod InsertLaws
 pub mod OrderLaws
