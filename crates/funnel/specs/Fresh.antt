@@ -31,10 +31,10 @@ answerOf counts state identity = insertOf (state .table) counts (state .words) (
 
 abbrev pub next : List ℕ → State → ℕ → State
 next counts state identity =
-    record
-    { table = insertOf (state .table) counts (state .words) (state .flags) identity .table
-    ; words = insertOf (state .table) counts (state .words) (state .flags) identity .words
-    ; flags = insertOf (state .table) counts (state .words) (state .flags) identity .flags
+    record {
+      table = insertOf (state .table) counts (state .words) (state .flags) identity .table;
+      words = insertOf (state .table) counts (state .words) (state .flags) identity .words;
+      flags = insertOf (state .table) counts (state .words) (state .flags) identity .flags;
     }
 
 -- the state after the insertions of a list, one after the other
