@@ -30,11 +30,14 @@ same-length-2 c = search needs
 returns-2 : tie.Need-returns-2
 returns-2 c = search needs
 
-slice-aggregate-query : tie.Need-slice-aggregate-query
-slice-aggregate-query c = simp length-take (omega arith)
+slice-aggregate-parse : tie.Need-slice-aggregate-parse
+slice-aggregate-parse c = simp length-take (omega arith)
 
-query-requires : tie.Need-query-requires
-query-requires c κs = search needs
+parse-requires : tie.Need-parse-requires
+parse-requires c κs = search needs
+
+answer-query-requires : tie.Need-answer-query-requires
+answer-query-requires c κs = search needs
 
 put-byte-requires : tie.Need-put-byte-requires
 put-byte-requires c κs = search needs
@@ -57,8 +60,9 @@ answer-spec =
     put-requires-2
     same-length-2
     returns-2
-    slice-aggregate-query
-    query-requires
+    slice-aggregate-parse
+    parse-requires
+    answer-query-requires
     put-byte-requires
     same-length-3
     returns-3)
