@@ -1,0 +1,4 @@
+// Table images.
+
+pub mod field;
+pub mod reader;
