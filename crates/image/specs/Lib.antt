@@ -1,8 +1,16 @@
 pub mod Format
 pub mod Reading
+pub mod Dirty
+pub mod Writing
+pub mod Cursor
+pub mod Pieces
 pub mod TestLaws
 pub mod FrameLaws
-pub mod Cursor
 pub mod CursorLaws
 pub mod RiseLaws
 pub mod AlongLaws
+pub mod DirtyLaws
+pub mod EntryLaws
+pub mod EntryFieldLaws
+pub mod ImageLaws
+pub mod WritingLaws

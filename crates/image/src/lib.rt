@@ -1,4 +1,6 @@
 // Table images.
 
+pub mod dirty;
 pub mod field;
 pub mod reader;
+pub mod writer;
