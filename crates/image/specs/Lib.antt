@@ -2,10 +2,13 @@ pub mod Format
 pub mod Reading
 pub mod Dirty
 pub mod Writing
+pub mod Fill
+pub mod Loading
 pub mod Cursor
 pub mod Pieces
 pub mod TestLaws
 pub mod FrameLaws
+pub mod ReadingLaws
 pub mod CursorLaws
 pub mod RiseLaws
 pub mod AlongLaws
@@ -14,3 +17,5 @@ pub mod EntryLaws
 pub mod EntryFieldLaws
 pub mod ImageLaws
 pub mod WritingLaws
+pub mod FillLaws
+pub mod LoadingLaws

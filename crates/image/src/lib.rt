@@ -2,5 +2,6 @@
 
 pub mod dirty;
 pub mod field;
+pub mod loader;
 pub mod reader;
 pub mod writer;
