@@ -8,26 +8,29 @@ use lib.ListN.{length, getD, drop, set, replicate, length-set, length-replicate,
 use lib.Seq.{drop-cons, drop-length, set-at, append-snoc}
 use native.Mathlib.Numerals.{add-one}
 use lib.Dec.{ltb, leb}
-use borrow.Author.Tests.{ltb-true}
+use borrow.Author.Tests.{ltb-true, leb-true}
 use Rattle.words.specs.Pick.{pick}
 use Rattle.words.specs.Bytes.{numAt}
 use Rattle.image.specs.Format.{entrySize, Entry, entry}
+use Rattle.image.specs.TestLaws.{not-both}
 use Rattle.image.specs.Reading.{entriesAt, rising}
 use Rattle.image.specs.RiseLaws.{entries-more}
 use Rattle.image.specs.Fill.{fillWords, fillFlags, Fills, Fits}
 
-pub record RisenHead (n : ℕ) (x : Entry) (es : List Entry) : Type 0 where
+-- what rising entries say of the first
+pub record RisenHead (n floor : ℕ) (x : Entry) (es : List Entry) : Type 0 where
+  pub least : floor ≤ x .slot
   pub below : x .slot < n
   pub rest : rising n (x .slot + 1) es ≡ true
 
-pub risen-head : (n floor : ℕ) (x : Entry) (es : List Entry) → rising n floor (x ∷ es) ≡ true → RisenHead n x es
+pub risen-head : (n floor : ℕ) (x : Entry) (es : List Entry) → rising n floor (x ∷ es) ≡ true → RisenHead n floor x es
 unfolding rising
-risen-head n floor x es h = go (leb floor (x .slot)) (ltb (x .slot) n) refl h
+risen-head n floor x es h = go (leb floor (x .slot)) refl (ltb (x .slot) n) refl h
   where
-    go : (u v : Bool) → ltb (x .slot) n ≡ v → pick u (pick v (rising n (x .slot + 1) es) false) false ≡ true → RisenHead n x es
-    go true true e h = record { below = ltb-true _ _ e; rest = h }
-    go true false e h = let z : _≡_ {A = ℕ} 0 1 = cc in absurd (omega arith)
-    go false v e h = let z : _≡_ {A = ℕ} 0 1 = cc in absurd (omega arith)
+    go : (u : Bool) → leb floor (x .slot) ≡ u → (v : Bool) → ltb (x .slot) n ≡ v → pick u (pick v (rising n (x .slot + 1) es) false) false ≡ true → RisenHead n floor x es
+    go true d true e h = record { least = leb-true _ _ d; below = ltb-true _ _ e; rest = h }
+    go true d false e h = not-both (sym h)
+    go false d v e h = not-both (sym h)
 
 pub fill-words-append : (w : List ℕ) (a c : List Entry) → fillWords w (a ++ c) ≡ fillWords (fillWords w a) c
 unfolding fillWords
@@ -52,7 +55,7 @@ filling-none b at count words flags f = record { wordsLeft = refl; flagsLeft = r
 
 module _ {b : List ℕ} {at count : ℕ} {words₀ flags₀ words flags : List ℕ} {p k : ℕ} (l : Filling b at count words₀ flags₀ words flags p k) where
   module _ (h : 0 < k) where
-    head : RisenHead (l .fits .n) (entry (numAt b p 8) (numAt b (p + 8) 8)) (entriesAt b (p + entrySize) (k - 1))
+    head : RisenHead (l .fits .n) (l .fits .floor) (entry (numAt b p 8) (numAt b (p + 8) 8)) (entriesAt b (p + entrySize) (k - 1))
     head = risen-head (l .fits .n) (l .fits .floor) _ _ (rw (entries-more b p k h) at (l .fits .rise))
 
     pub filling-slot : (numAt b p 8 < length words) × (numAt b p 8 < length flags)

@@ -1,3 +1,4 @@
 pub mod Fuel
 pub mod WriteAfterRead
 pub mod ReadAfterWrite
+pub mod TableLaws
