@@ -2,3 +2,5 @@ pub mod Fuel
 pub mod WriteAfterRead
 pub mod ReadAfterWrite
 pub mod TableLaws
+pub mod RoundTrip
+pub mod Examples

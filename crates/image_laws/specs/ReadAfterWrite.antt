@@ -6,7 +6,7 @@ use Prim.Native.Nat.{ℕ, zero, suc, _+_, _*_, _-_, _/_, _%_, _^_, _<_, _≤_, m
 use native.Mathlib.Omega.{arith}
 use native.Mathlib.Nat.{mod-eq-of-lt}
 use lib.ListN.{length, getD, take, drop, length-append, length-take, length-drop, take-append-drop}
-use lib.Seq.{drop-drop, drop-at, getD-drop}
+use lib.Seq.{drop-drop, drop-at, take-at, getD-drop}
 use lib.Dec.{eqb, ltb, leb}
 use borrow.Author.Tests.{le-ltb, le-leb, eq-eqb, eqb-false}
 use Rattle.words.specs.Pick.{pick}
@@ -255,6 +255,22 @@ rest-reads b (suc f) n e seed (x ∷ label) es v h d =
     read-more b (seen n e seed 0 0 []) 4 29 4 (length (x ∷ label)) w refl f refl
     ∙ tail-reads b (fieldsFor (length es)) f 5 (32 + length (x ∷ label)) (seen n e seed 32 (length (x ∷ label)) []) es refl (omega arith) (omega arith) (omega arith) (λ y. omega arith) (v .fit) (v .rise) (v .few)
     (next-is b 29 4 (x ∷ label) _ d)
+
+-- where a label stands
+image-rest : (n e seed : ℕ) (label : List ℕ) (es : List Entry)
+    → drop 29 (imageOf n e seed label es) ≡ labelField label ++ (entryFields (fieldsFor (length es)) es ++ fieldOf 6 (bytesOf 8 (length es)))
+unfolding imageOf
+image-rest n e seed label es =
+    let d1 = stage-next (imageOf n e seed label es) 0 (seen 0 0 0 0 0 []) 1 8 n 0 _ refl in
+    let d2 = stage-next (imageOf n e seed label es) 0 (seen 0 0 0 0 0 []) 2 4 e 11 _ d1 in
+    stage-next (imageOf n e seed label es) 0 (seen 0 0 0 0 0 []) 3 8 seed 18 _ d2
+
+pub label-stands : (n e seed : ℕ) (label : List ℕ) (es : List Entry) → take (length label) (drop (labelPlace label) (imageOf n e seed label es)) ≡ label
+unfolding labelField
+label-stands n e seed [] es = refl
+label-stands n e seed (x ∷ label) es =
+    let d = body-is (imageOf n e seed (x ∷ label) es) 29 4 (x ∷ label) _ (image-rest n e seed (x ∷ label) es) in
+    ap (take (length (x ∷ label))) d ∙ take-at (x ∷ label) _ (length (x ∷ label)) refl
 
 pub read-after-write : (n e seed : ℕ) (label : List ℕ) (es : List Entry) → Valid n e seed label es
     → readOf (imageOf n e seed label es) ≡ good (seen n e seed (labelPlace label) (length label) es)
