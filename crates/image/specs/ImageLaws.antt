@@ -112,4 +112,3 @@ size-parts (x ∷ label) c =
     let l = length-label (x ∷ label) in
     let f = length-field 4 (x ∷ label) in
     (rw l, omega arith)
-

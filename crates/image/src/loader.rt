@@ -18,9 +18,15 @@ use words::bytes::read64;
 
 // What loading into valid buffers comes to: IMAGE with its place, FOREIGN, or the number of entries and the label's place.
 pub enum Filled {
-    Image { place: u64 },
+    Image {
+        place: u64,
+    },
     Foreign,
-    Done { count: u64, label_at: u64, label_len: u64 },
+    Done {
+        count: u64,
+        label_at: u64,
+        label_len: u64,
+    },
 }
 
 // The buffers of the table (n, e, seed) from an image of it.
@@ -30,7 +36,9 @@ pub fn load(n: u64, e: u64, seed: u64, words: &mut [u64], flags: &mut [u8], imag
 {
     match read(image) {
         Outcome::Bad { place } => {
-            return Filled::Image { place: place as u64 };
+            return Filled::Image {
+                place: place as u64,
+            };
         }
         Outcome::Good { head } => {
             if !own(n, e, seed, head) {

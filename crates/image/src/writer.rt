@@ -164,7 +164,11 @@ fn write_fields(words: &[u64], flags: &[u8], count: usize, out: &mut [u8], at: u
 fn chunk_of(left: usize) -> usize
     ensures { λ r. ⌜ r ≡ chunk left ⌝ }
 {
-    if left < FIELD_ENTRIES { left } else { FIELD_ENTRIES }
+    if left < FIELD_ENTRIES {
+        left
+    } else {
+        FIELD_ENTRIES
+    }
 }
 
 // The next m entries from slot `from` on, at `at`; the slot to go on from.

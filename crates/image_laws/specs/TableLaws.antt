@@ -216,9 +216,11 @@ holds-fill n (suc k) s c words flags es h lw lf vw vf r = go (next-of n s es r) 
 
 vacant-zeros : (n : ℕ) → Vacant (replicate n 0) 0
 vacant-zeros n =
-    record { zeros = λ i h.
-    cases (ltb i n) (λ t. let l : i < n = ltb-true _ _ t in getD-replicate n i 0 0 l)
-    (λ f. let l : length (replicate {A = ℕ} n 0) ≤ i = rw length-replicate (ltb-false _ _ f) in List·getD-eq-default (replicate n 0) 0 l) }
+    record {
+      zeros = λ i h.
+          cases (ltb i n) (λ t. let l : i < n = ltb-true _ _ t in getD-replicate n i 0 0 l)
+          (λ f. let l : length (replicate {A = ℕ} n 0) ≤ i = rw length-replicate (ltb-false _ _ f) in List·getD-eq-default (replicate n 0) 0 l);
+    }
 
 module _ (n : ℕ) (es : List Entry) (r : rising n 0 es ≡ true) where
   filled : Holds (fillWords (replicate n 0) es) (fillFlags (replicate n 0) es) 0 n 0 es

@@ -1,3 +1,4 @@
+-- `image::dirty::scan_table` meets its contract. Assumes nothing.
 use Rattle.image.specs.DirtyLaws.{Scanning, scan-none, scan-flag, scan-word, scan-vacant, scan-taken, scan-end}
 use lib.ListN.{length}
 use borrow.Author.Needs.{needs}

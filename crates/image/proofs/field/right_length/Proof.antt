@@ -1,3 +1,4 @@
+-- `image::field::right_length` meets its contract. Assumes nothing.
 use borrow.Author.Tests.{lt-ltb, le-ltb, le-leb, lt-leb, eq-eqb, ne-eqb, not-true, not-false}
 use Rattle.image.specs.Reading.{rightLength}
 use Rattle.image.proofs.field.right_length.Statement.{statement}

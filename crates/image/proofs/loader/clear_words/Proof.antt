@@ -1,3 +1,4 @@
+-- `image::loader::clear_words` meets its contract. Assumes nothing.
 use Prim.Native.Nat.{_≤_, _-_}
 use native.Mathlib.Omega.{arith}
 use mathlib.Core.Path.{_≡_, refl}
@@ -5,8 +6,6 @@ use lib.ListN.{length}
 use Rattle.image.specs.FillLaws.{Clearing, clearing-none, clearing-more, clearing-end}
 use Rattle.image.proofs.loader.clear_words.Statement.{statement}
 use Rattle.image.proofs.loader.clear_words.Tie as tie
-use Rattle.image.proofs.loader.clear_words.Reads as reads
-use Rattle.image.proofs.loader.clear_words.Lts as lts
 
 abbrev Inv-loop : tie.InvT-loop
 Inv-loop words₀ n i₀ words i = (n ≡ length words₀) × (i ≤ n) × Clearing words₀ words i
@@ -14,35 +13,27 @@ Inv-loop words₀ n i₀ words i = (n ≡ length words₀) × (i ≤ n) × Clear
 abbrev μ-loop : tie.MeasureT-loop
 μ-loop words₀ n i₀ words i = n - i
 
--- src/loader.rt:69:5
 loop-holds : tie.Need-loop-holds Inv-loop μ-loop
 loop-holds c = (refl, omega arith, clearing-none _)
 
--- src/loader.rt:70:9
 mul-words : tie.Need-mul-words Inv-loop μ-loop
 mul-words c = omega (arith, c .before .loop .inv .2 .size)
 
--- src/loader.rt:70:9
 slice-write-words : tie.Need-slice-write-words Inv-loop μ-loop
 slice-write-words c = omega (arith, c .before .loop .inv .2 .size)
 
--- src/loader.rt:71:9
 add-i : tie.Need-add-i Inv-loop μ-loop
 add-i c = omega (arith, c .before .loop .inv .2 .size)
 
--- src/loader.rt:69:5
 loop-less : tie.Need-loop-less Inv-loop μ-loop
 loop-less c = omega (arith, c .before .loop .inv .2 .size)
 
--- src/loader.rt:69:5
 loop-again : tie.Need-loop-again Inv-loop μ-loop
 loop-again c = (c .before .loop .inv .0, omega arith, clearing-more (c .before .loop .inv .2) (omega arith))
 
--- src/loader.rt:64:1
 same-length : tie.Need-same-length Inv-loop μ-loop
 same-length c = c .before .loop .inv .2 .size
 
--- src/loader.rt:64:1
 returns : tie.Need-returns Inv-loop μ-loop
 returns c = clearing-end (c .before .loop .inv .2) (omega arith)
 

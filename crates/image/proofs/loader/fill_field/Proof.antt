@@ -1,3 +1,4 @@
+-- `image::loader::fill_field` meets its contract. Assumes nothing.
 use Rattle.image.specs.Format.{entrySize}
 use Rattle.image.specs.FillLaws.{Filling, filling-none, filling-slot, filling-more, filling-end}
 use lib.ListN.{length, length-set}

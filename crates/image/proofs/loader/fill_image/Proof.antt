@@ -1,3 +1,4 @@
+-- `image::loader::fill_image` meets its contract. Assumes nothing.
 use Rattle.image.specs.LoadingLaws.{Onward, onward-none, onward-wrong, onward-sizes, onward-framing, onward-last, onward-fits, onward-five, onward-other}
 use lib.ListN.{length}
 use borrow.Author.Needs.{needs}

@@ -1,3 +1,4 @@
+-- `image::loader::load` meets its contract. Assumes nothing.
 use mathlib.Core.Path.{_≡_, sym, _∙_}
 use native.Mathlib.Omega.{arith}
 use lib.ListN.{length-replicate}
@@ -6,62 +7,43 @@ use Rattle.image.specs.LoadingLaws.{loads-bad, loads-foreign, good-is, s
 use borrow.Author.Needs.{needs}
 use Rattle.image.proofs.loader.load.Statement.{statement}
 use Rattle.image.proofs.loader.load.Tie as tie
-use Rattle.image.proofs.loader.load.Reads as reads
-use Rattle.image.proofs.loader.load.Lts as lts
-use Rattle.image.proofs.loader.clear_flags.Reads as clear-flags-reads
-use Rattle.image.proofs.loader.clear_words.Reads as clear-words-reads
-use Rattle.image.proofs.loader.fill_image.Reads as fill-image-reads
-use Rattle.image.proofs.loader.own.Reads as own-reads
-use Rattle.image.proofs.reader.read.Reads as read-reads
 
--- src/loader.rt:31:11
 read-requires : tie.Need-read-requires
 read-requires c κs = search needs
 
--- src/loader.rt:32:24
 enum-known-place : tie.Need-enum-known-place
 enum-known-place c = search needs
 
--- src/loader.rt:33:13
 returns : tie.Need-returns
 returns c = loads-bad _ _ _ _ _ _ _ (sym (c .before .before .before .read .ensures) ∙ c .before .place .given .1)
 
--- src/loader.rt:35:25
 enum-known-head : tie.Need-enum-known-head
 enum-known-head c = search needs
 
--- src/loader.rt:36:17
 own-requires : tie.Need-own-requires
 own-requires c κs = search needs
 
--- src/loader.rt:37:17
 returns-2 : tie.Need-returns-2
 returns-2 c = loads-foreign _ _ _ _ _ _ _ (sym (c .before .before .before .before .before .read .ensures) ∙ c .before .before .before .head .given .1) (sym (c .before .own .ensures) ∙ not-true _ (c .if1 .taken))
 
--- src/loader.rt:39:13
 clear-words-requires : tie.Need-clear-words-requires
 clear-words-requires c κs = search needs
 
--- src/loader.rt:40:13
 clear-flags-requires : tie.Need-clear-flags-requires
 clear-flags-requires c κs = search needs
 
--- src/loader.rt:41:13
 fill-image-requires : tie.Need-fill-image-requires
 fill-image-requires c κs = let p = c .before .before .before .before .before .before .before .before .before .before .before .before .before .before .before .before .before .before .before .pre in
     let r = sym (c .before .before .before .before .before .before .before .before .before .before .before .before .before .before .before .read .ensures) ∙ c .before .before .before .before .before .before .before .before .before .before .before .before .before .head .given .1 in
     let k = slots-are _ _ r _ _ _ (sym (c .before .before .before .before .before .before .before .before .before .before .before .own .ensures) ∙ not-false _ (c .before .before .before .before .before .before .before .before .before .before .if1 .left)) in
     (good-is _ _ r, rw (c .before .before .before .before .before .before .before .before .clear-words .ensures, length-replicate) (omega (arith, p .0, k)), rw (c .before .before .before .before .clear-flags .ensures, length-replicate) (omega (arith, p .1, k)))
 
--- src/loader.rt:42:13
 same-length : tie.Need-same-length
 same-length c = search needs
 
--- src/loader.rt:42:13
 same-length-2 : tie.Need-same-length-2
 same-length-2 c = search needs
 
--- src/loader.rt:42:13
 returns-3 : tie.Need-returns-3
 returns-3 c = let r = sym (c .before .before .before .before .before .before .before .before .before .before .before .before .before .before .before .before .before .before .before .before .read .ensures) ∙ c .before .before .before .before .before .before .before .before .before .before .before .before .before .before .before .before .before .before .head .given .1 in
     let o = sym (c .before .before .before .before .before .before .before .before .before .before .before .before .before .before .before .before .own .ensures) ∙ not-false _ (c .before .before .before .before .before .before .before .before .before .before .before .before .before .before .before .if1 .left) in

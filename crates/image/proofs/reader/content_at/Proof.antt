@@ -1,3 +1,4 @@
+-- `image::reader::content_at` meets its contract. Assumes nothing.
 use Rattle.image.specs.Cursor.{contentOf}
 use Rattle.image.specs.FrameLaws.{len-6}
 use borrow.Author.Tests.{eq-eqb, ne-eqb}

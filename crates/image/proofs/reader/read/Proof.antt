@@ -1,3 +1,4 @@
+-- `image::reader::read` meets its contract. Assumes nothing.
 use Rattle.image.specs.AlongLaws.{Along, along-none, along-at, along-count, along-wrong, along-framing, along-off, along-after, along-good, along-more}
 use Rattle.image.specs.CursorLaws.{took-at}
 use Rattle.image.specs.Cursor.{outcomeOf}

@@ -1,3 +1,4 @@
+-- `image::reader::rise` meets its contract. Assumes nothing.
 use Rattle.image.specs.RiseLaws.{Rises, rises-none, rises-low, rises-high, rises-more, rises-end}
 use lib.ListN.{length}
 use native.Mathlib.Omega.{arith}

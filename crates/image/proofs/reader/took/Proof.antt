@@ -1,3 +1,4 @@
+-- `image::reader::took` meets its contract. Assumes nothing.
 use Rattle.image.specs.Cursor.{tookOf}
 use Rattle.image.specs.FrameLaws.{len-1, len-2, len-3}
 use borrow.Author.Tests.{eq-eqb, ne-eqb}

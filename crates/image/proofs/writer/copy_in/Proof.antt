@@ -1,3 +1,4 @@
+-- `image::writer::copy_in` meets its contract. Assumes nothing.
 use Rattle.image.specs.ImageLaws.{Copying, copying-none, copying-more, copying-end}
 use lib.ListN.{length}
 use native.Mathlib.Omega.{arith}

@@ -1,3 +1,4 @@
+-- `image::writer::image_size` meets its contract. Assumes nothing.
 use native.Mathlib.Omega.{arith}
 use borrow.Author.Tests.{eq-eqb, ne-eqb}
 use Rattle.image.specs.Format.{fieldsFor}
@@ -5,47 +6,35 @@ use Rattle.image.specs.Pieces.{sizeOf}
 use borrow.Author.Needs.{needs}
 use Rattle.image.proofs.writer.image_size.Statement.{statement}
 use Rattle.image.proofs.writer.image_size.Tie as tie
-use Rattle.image.proofs.writer.image_size.Reads as reads
-use Rattle.image.proofs.writer.image_size.Lts as lts
 
--- src/writer.rt:61:28
 sub-fields : tie.Need-sub-fields
 sub-fields c = search needs
 
--- src/writer.rt:61:19
 add-fields : tie.Need-add-fields
 add-fields c = search needs
 
--- src/writer.rt:62:16
 mul-rest : tie.Need-mul-rest
 mul-rest c = search needs
 
--- src/writer.rt:62:37
 mul-rest-2 : tie.Need-mul-rest-2
 mul-rest-2 c = search needs
 
--- src/writer.rt:62:16
 add-rest : tie.Need-add-rest
 add-rest c = search needs
 
--- src/writer.rt:64:16
 add-result : tie.Need-add-result
 add-result c = search needs
 
--- src/writer.rt:64:9
 returns : tie.Need-returns
 unfolding sizeOf fieldsFor
 returns c = rw (eq-eqb _ _ (c .if1 .taken)) (omega arith)
 
--- src/writer.rt:66:5
 add-result-2 : tie.Need-add-result-2
 add-result-2 c = search needs
 
--- src/writer.rt:66:5
 add-result-3 : tie.Need-add-result-3
 add-result-3 c = search needs
 
--- src/writer.rt:57:1
 returns-2 : tie.Need-returns-2
 unfolding sizeOf fieldsFor
 returns-2 c = rw (ne-eqb _ _ (c .if1 .left)) (omega arith)

@@ -1,3 +1,4 @@
+-- `image::writer::write` meets its contract. Assumes nothing.
 use Rattle.image.specs.DirtyLaws.{count-is, count-most}
 use Rattle.image.specs.ImageLaws.{entries-whole}
 use Rattle.image.specs.WritingLaws.{writes-dirty, writes-room, writes-done}

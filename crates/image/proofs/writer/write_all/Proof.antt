@@ -1,3 +1,4 @@
+-- `image::writer::write_all` meets its contract. Assumes nothing.
 use Rattle.image.specs.ImageLaws.{size-parts, put-image}
 use denote.Ref.{now}
 use mathlib.Core.Path.{_≡_, sym, _∙_, ap}

@@ -1,3 +1,4 @@
+-- `image::writer::write_entries` meets its contract. Assumes nothing.
 use Rattle.image.specs.EntryLaws.{Writing, writing-none, writing-slot, writing-skip, writing-put, writing-end}
 use lib.ListN.{length}
 use borrow.Author.Needs.{needs}

@@ -1,3 +1,4 @@
+-- `image::writer::write_entry` meets its contract. Assumes nothing.
 use Rattle.words.specs.BytesLaws.{sets-append, length-bytes}
 use borrow.Author.Needs.{needs}
 use Rattle.image.proofs.writer.write_entry.Statement.{statement}

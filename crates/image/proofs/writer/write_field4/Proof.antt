@@ -1,3 +1,4 @@
+-- `image::writer::write_field4` meets its contract. Assumes nothing.
 use Rattle.image.specs.EntryFieldLaws.{head-then}
 use Rattle.words.specs.BytesLaws.{length-bytes}
 use borrow.Author.Needs.{needs}

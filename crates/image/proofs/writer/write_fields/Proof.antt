@@ -1,3 +1,4 @@
+-- `image::writer::write_fields` meets its contract. Assumes nothing.
 use Rattle.image.specs.EntryFieldLaws.{Fields, fields-none, fields-room, fields-more, fields-end}
 use lib.Seq.{length-sets}
 use lib.ListN.{length}

@@ -1,3 +1,4 @@
+-- `image::writer::write_head` meets its contract. Assumes nothing.
 use lib.ListN.{length}
 use mathlib.Core.Path.{_≡_, sym, _∙_, ap}
 use lib.Seq.{length-sets}

@@ -1,3 +1,4 @@
+-- `image::writer::write_label` meets its contract. Assumes nothing.
 use Rattle.image.specs.ImageLaws.{put-none, put-label}
 use native.Mathlib.Omega.{arith}
 use borrow.Author.Needs.{needs}
