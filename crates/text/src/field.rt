@@ -14,6 +14,14 @@ pub enum TwoWords {
     Bad,
 }
 
+// What a row of number fields gave: how many there were, and where the next field starts, past the line where there is
+// none. Where one of the fields was no number, `next` is where it starts and `good` is false.
+pub struct Row {
+    pub count: usize,
+    pub next: usize,
+    pub good: bool,
+}
+
 // The end of the field that starts at `from`: the next space, or the end of the line.
 pub fn field_end(line: &[u8], from: usize) -> usize {
     let mut i = from;
@@ -135,4 +143,65 @@ fn narrow(x: TwoWords) -> OneWord {
             }
         }
     }
+}
+
+// Whether a field is a word.
+pub fn is_word(line: &[u8], from: usize, to: usize, word: &[u8]) -> bool {
+    if to < from {
+        return false;
+    }
+    if line.len() < to {
+        return false;
+    }
+    if to - from != word.len() {
+        return false;
+    }
+    let mut i = 0;
+    while i < word.len() {
+        if line[from + i] != word[i] {
+            return false;
+        }
+        i += 1;
+    }
+    true
+}
+
+// The fields from `from` on as numbers, as many as there are and go in.
+pub fn numbers(line: &[u8], from: usize, into: &mut [u64]) -> Row {
+    let mut count = 0;
+    let mut next = from;
+    while count < into.len() {
+        if line.len() < next {
+            return Row {
+                count,
+                next,
+                good: true,
+            };
+        }
+        let to = field_end(line, next);
+        match number(line, next, to) {
+            OneWord::Bad => {
+                return Row {
+                    count,
+                    next,
+                    good: false,
+                };
+            }
+            OneWord::Value(x) => {
+                into[count] = x;
+            }
+        }
+        next = field_after(line, to);
+        count += 1;
+    }
+    Row {
+        count,
+        next,
+        good: true,
+    }
+}
+
+// Whether just `count` fields were numbers, and none came after them.
+pub fn were_exactly(line: &[u8], n: Row, count: usize) -> bool {
+    n.good && n.count == count && line.len() < n.next
 }

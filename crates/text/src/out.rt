@@ -59,6 +59,39 @@ pub fn put_decimal(out: &mut [u8], at: usize, n: u64) -> usize {
     put(out, at, &text[..k])
 }
 
+// The first `most` numbers of a row, each behind a space.
+pub fn put_row(out: &mut [u8], at: usize, most: u64, row: &[u64]) -> usize {
+    let mut to = at;
+    let mut i = 0;
+    while i < row.len() {
+        if most <= i as u64 {
+            return to;
+        }
+        to = put_field(out, to, row[i]);
+        i += 1;
+    }
+    to
+}
+
+// The first `most` pairs `a:b` of two rows, each behind a space.
+pub fn put_pairs(out: &mut [u8], at: usize, most: u64, left: &[u64], right: &[u64]) -> usize {
+    let mut to = at;
+    let mut i = 0;
+    while i < left.len() {
+        if most <= i as u64 {
+            return to;
+        }
+        if right.len() <= i {
+            return to;
+        }
+        to = put_field(out, to, left[i]);
+        to = put_byte(out, to, b':');
+        to = put_decimal(out, to, right[i]);
+        i += 1;
+    }
+    to
+}
+
 // A number as 16 hexadecimal digits.
 pub fn put_hex(out: &mut [u8], at: usize, n: u64) -> usize {
     let mut text = [0u8; 16];

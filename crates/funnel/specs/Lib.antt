@@ -1,0 +1,13 @@
+pub mod Every
+pub mod EveryLaws
+pub mod FindLaws
+pub mod Insert
+pub mod InsertLaws
+pub mod Path
+pub mod PathLaws
+pub mod PlaceLaws
+pub mod PlanLaws
+pub mod Search
+pub mod SearchLaws
+pub mod StageLaws
+pub mod Valid

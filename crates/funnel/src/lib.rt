@@ -1,0 +1,7 @@
+// Funnel tables.
+
+pub mod insert;
+pub mod place_all;
+pub mod scan;
+pub mod search;
+pub mod table;

@@ -1,0 +1,50 @@
+-- `probe::range::elastic_reduce` meets its contract. Assumes nothing.
+use mathlib.Core.Path.{ap, _∙_}
+use native.Mathlib.Omega.{arith}
+use Rattle.probe.specs.Range.{reducedOf}
+use Rattle.probe.specs.RangeLaws.{elastic-core, elastic-upper, elastic-level, elastic-probe, elastic-cap, elastic-drawn}
+use borrow.Author.Needs.{needs}
+use Rattle.probe.proofs.range.elastic_reduce.Statement.{statement}
+use Rattle.probe.proofs.range.elastic_reduce.Tie as tie
+
+returns : tie.Need-returns
+returns c = elastic-upper _ _ _ _ _ _ (c .if1 .taken)
+
+returns-2 : tie.Need-returns-2
+returns-2 c = elastic-level _ _ _ _ _ _ (c .before .if1 .left) (c .if2 .taken)
+
+returns-3 : tie.Need-returns-3
+returns-3 c = elastic-probe _ _ _ _ _ _ (c .before .before .if1 .left) (omega arith) (c .if3 .taken)
+
+returns-4 : tie.Need-returns-4
+returns-4 c = elastic-cap _ _ _ _ _ _ (c .before .before .before .if1 .left) (omega arith) (omega arith) (c .if4 .taken)
+
+elastic-key-requires : tie.Need-elastic-key-requires
+elastic-key-requires c κs = search needs
+
+elastic-base-requires : tie.Need-elastic-base-requires
+elastic-base-requires c κs = search needs
+
+elastic-draw-requires : tie.Need-elastic-draw-requires
+elastic-draw-requires c κs = (omega arith, omega arith)
+
+answer-requires : tie.Need-answer-requires
+answer-requires c κs = search needs
+
+returns-5 : tie.Need-returns-5
+returns-5 c = c .answer .ensures ∙ ap reducedOf (c .before .elastic-draw .ensures ∙ elastic-core _ _ _ _ _ _ _ _ (c .before .before .before .elastic-key .ensures) (c .before .before .elastic-base .ensures))
+    ∙ elastic-drawn _ _ _ _ _ _ (c .before .before .before .before .before .before .before .if1 .left) (omega arith) (omega arith) (omega arith)
+
+pub elastic-reduce-spec : {M : Type 1} → statement M
+elastic-reduce-spec =
+    tie.close
+    (tie.spec
+    returns
+    returns-2
+    returns-3
+    returns-4
+    elastic-key-requires
+    elastic-base-requires
+    elastic-draw-requires
+    answer-requires
+    returns-5)

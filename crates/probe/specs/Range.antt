@@ -1,0 +1,77 @@
+-- Reduction of words to an index below a number of values. Assumes nothing.
+use mathlib.Core.List.{List, [], _∷_}
+use Prim.Native.Nat.{ℕ, zero, suc, _+_, _*_, _/_, _%_, _^_}
+use lib.Dec.{eqb, ltb, leb}
+use Rattle.refusal.specs.declared.Name.the-variants as name
+use Rattle.refusal.specs.declared.RangeRefusal.{RangeRefusal}
+use Rattle.refusal.specs.Table.{Report, answered, refused}
+use Rattle.probe.specs.Pick.{pick}
+use Rattle.probe.specs.Counter.{elasticCounterOf, levelOf, funnelCounterOf}
+use Rattle.probe.specs.Word.{elasticKeyOf, funnelInOf, funnelOutOf, wordOf}
+use Rattle.probe.specs.declared.counter.Domain.{Domain}
+use Rattle.probe.specs.declared.range.Drawn.{Drawn}
+use Rattle.probe.specs.declared.range.Drawn.the-variants as drawn
+use Rattle.probe.specs.declared.range.Reduced.{Reduced}
+use Rattle.probe.specs.declared.range.Reduced.the-variants as reduced
+
+-- the words of n counters from base on. The retry is a counter's lowest field, so that those of one probe follow each other.
+unfoldable pub wordsAt : (inner outer base n : ℕ) → List ℕ
+wordsAt inner outer base zero = []
+wordsAt inner outer base (suc n) = wordOf inner outer base ∷ wordsAt inner outer (base + 1) n
+
+-- RANGE: "all allowed words rejected, with the number of words"
+abbrev pub allRejected : ℕ → Drawn
+allRejected words = drawn.Refused (record { words = words })
+
+-- "the product of word and u has two 64-bit halves; reject while the low half is below 2^64 mod u; the index is the high half";
+-- `used` words were rejected before these
+unfoldable pub reduceOf : (words : List ℕ) (u used : ℕ) → Drawn
+reduceOf [] u used = allRejected used
+reduceOf (word ∷ words) u used =
+    pick (leb (2 ^ 64 % u) (word * u % 2 ^ 64))
+    (drawn.Index (word * u / 2 ^ 64) (used + 1))
+    (reduceOf words u (used + 1))
+
+-- an index below u from at most cap words, by the numbers that key them and the counter of the first
+unfoldable pub drawOf : (inner outer base u cap : ℕ) → Drawn
+drawOf inner outer base u cap = reduceOf (wordsAt inner outer base cap) u 0
+
+-- the index of an identity in a level of u slots of an elastic table, at a probe
+unfoldable pub elasticDrawOf : (seed identity level probe u cap : ℕ) → Drawn
+elasticDrawOf seed identity level probe u cap =
+    drawOf (elasticKeyOf seed identity) (elasticKeyOf seed identity) (elasticCounterOf level probe 0) u cap
+
+-- the index of an identity among u buckets or slots of a funnel table, at a probe
+unfoldable pub funnelDrawOf : (seed identity : ℕ) → Domain → (probe u cap : ℕ) → Drawn
+funnelDrawOf seed identity domain probe u cap =
+    drawOf (funnelInOf seed identity) (funnelOutOf seed identity) (funnelCounterOf domain probe 0) u cap
+
+-- a draw as the bare reduction answers it
+abbrev pub reducedOf : Drawn → Reduced
+reducedOf (drawn.Index index words) = reduced.Index index words
+reducedOf (drawn.Refused refusal) = reduced.Range refusal
+
+-- "Reduction: 8, 9, 10; a cap of 0 is RANGE with 0 words"; UPPER: "range reduction to 0 values"; COUNTER: "level, probe, retry or word
+-- cap beyond the packing"
+unfoldable pub elasticReduceOf : (seed identity level probe u cap : ℕ) → Reduced
+elasticReduceOf seed identity level probe u cap =
+    pick (eqb u 0) reduced.Upper
+    (pick (leb 32 level) reduced.Counter
+    (pick (leb 8192 probe) reduced.Counter
+    (pick (ltb 8 cap) reduced.Counter
+    (reducedOf (elasticDrawOf seed identity level probe u cap)))))
+
+unfoldable pub funnelReduceOf : (seed identity : ℕ) → Domain → (probe u cap : ℕ) → Reduced
+funnelReduceOf seed identity domain probe u cap =
+    pick (eqb u 0) reduced.Upper
+    (pick (leb (2 ^ 46) (levelOf domain)) reduced.Counter
+    (pick (leb 256 probe) reduced.Counter
+    (pick (ltb 256 cap) reduced.Counter
+    (reducedOf (funnelDrawOf seed identity domain probe u cap)))))
+
+-- what the bare reduction reports
+abbrev pub reducedReport : Reduced → Report
+reducedReport (reduced.Index index words) = answered (index ∷ words ∷ [])
+reducedReport reduced.Upper = refused name.Upper []
+reducedReport reduced.Counter = refused name.Counter []
+reducedReport (reduced.Range refusal) = refused name.Range (refusal .words ∷ [])

@@ -1,0 +1,239 @@
+-- Laws of the reduction: one word at a time, the bounds of a draw, and the answers of the bare reductions in turn. Assumes nothing.
+use mathlib.Core.Bool.{Bool, true, false}
+use mathlib.Core.List.{List, [], _∷_}
+use mathlib.Core.Path.{_≡_, refl, sym, ap, ap₂, subst, _∙_}
+use Prim.Native.Nat.{ℕ, zero, suc, _+_, _-_, _*_, _/_, _%_, _^_, _≤_, _<_}
+use native.Mathlib.Nat.{mul-lt-mul-of-pos-right}
+use native.Mathlib.Omega.{arith}
+use lib.Dec.{eqb, ltb, leb}
+use lib.ListN.{length, getD}
+use borrow.Author.Tests.{eq-eqb, ne-eqb, lt-ltb, le-ltb, le-leb, lt-leb}
+use Rattle.refusal.specs.declared.RangeRefusal.{RangeRefusal}
+use Rattle.probe.specs.Pick.{pick}
+use Rattle.probe.specs.Counter.{elasticCounterOf, levelOf, funnelCounterOf}
+use Rattle.probe.specs.Word.{elasticKeyOf, funnelInOf, funnelOutOf, wordOf, elasticWordOf, funnelWordOf}
+use Rattle.probe.specs.WordLaws.{word-below}
+use Rattle.probe.specs.Range.{wordsAt, allRejected, reduceOf, drawOf, elasticDrawOf, funnelDrawOf, reducedOf, elasticReduceOf, funnelReduceOf}
+use Rattle.probe.specs.declared.counter.Domain.{Domain}
+use Rattle.probe.specs.declared.range.Drawn.{Drawn}
+use Rattle.probe.specs.declared.range.Drawn.the-variants.{Index, Refused}
+use Rattle.probe.specs.declared.range.Reduced.the-variants as reduced
+
+-- ---- the list of words
+
+pub words-length : (inner outer base n : ℕ) → length (wordsAt inner outer base n) ≡ n
+unfolding wordsAt
+words-length inner outer base zero = refl
+words-length inner outer base (suc n) = ap suc (words-length inner outer (base + 1) n)
+
+pub words-at : (inner outer base n k : ℕ) → k < n → getD (wordsAt inner outer base n) k 0 ≡ wordOf inner outer (base + k)
+unfolding wordsAt
+words-at inner outer base zero k h = absurd (omega arith)
+words-at inner outer base (suc n) zero h = let e : base + 0 ≡ base = omega arith in rw e
+words-at inner outer base (suc n) (suc k) h =
+    let e : base + 1 + k ≡ base + suc k = omega arith in
+    words-at inner outer (base + 1) n k (omega arith) ∙ ap (wordOf inner outer) e
+
+-- the words of an elastic probe are those of its retries
+pub elastic-words : (seed identity level probe cap retry : ℕ) → retry < cap
+    → getD (wordsAt (elasticKeyOf seed identity) (elasticKeyOf seed identity) (elasticCounterOf level probe 0) cap) retry 0 ≡ elasticWordOf seed identity level probe retry
+elastic-words seed identity level probe cap retry h =
+    let e : elasticCounterOf level probe 0 + retry ≡ elasticCounterOf level probe retry = omega arith in
+    words-at _ _ _ cap retry h ∙ ap (wordOf (elasticKeyOf seed identity) (elasticKeyOf seed identity)) e
+
+-- and so are those of a funnel probe
+pub funnel-words : (seed identity : ℕ) (domain : Domain) (probe cap retry : ℕ) → retry < cap
+    → getD (wordsAt (funnelInOf seed identity) (funnelOutOf seed identity) (funnelCounterOf domain probe 0) cap) retry 0 ≡ funnelWordOf seed identity domain probe retry
+funnel-words seed identity domain probe cap retry h =
+    let e : funnelCounterOf domain probe 0 + retry ≡ funnelCounterOf domain probe retry = omega arith in
+    words-at _ _ _ cap retry h ∙ ap (wordOf (funnelInOf seed identity) (funnelOutOf seed identity)) e
+
+-- ---- one word
+
+-- the high half of a word times u is below u
+pub high-below : (w u : ℕ) → w < 2 ^ 64 → 0 < u → w * u / 2 ^ 64 < u
+high-below w u hw hu = omega (arith, mul-lt-mul-of-pos-right {m = w} {n = 2 ^ 64} {k = u} hw hu)
+
+-- the turn of a word, whose product with u has the low half low
+module _ (inner outer base u used n word low : ℕ) (t : Bool)
+    (more : 0 < n)
+    (is : word ≡ wordOf inner outer base)
+    (half : low ≡ word * u % 2 ^ 64)
+    (test : t ≡ leb (2 ^ 64 % u) low) where
+  turn : reduceOf (wordsAt inner outer base n) u used ≡ pick t (Index (word * u / 2 ^ 64) (used + 1)) (reduceOf (wordsAt inner outer (base + 1) (n - 1)) u (used + 1))
+  unfolding reduceOf wordsAt
+  turn =
+      let e : n ≡ suc (n - 1) = omega arith in
+      ap (λ (m : ℕ). reduceOf (wordsAt inner outer base m) u used) e
+      ∙ ap (λ (v : ℕ). pick (leb (2 ^ 64 % u) (v * u % 2 ^ 64)) (Index (v * u / 2 ^ 64) (used + 1)) (reduceOf (wordsAt inner outer (base + 1) (n - 1)) u (used + 1))) (sym is)
+      ∙ ap (λ (b : Bool). pick b (Index (word * u / 2 ^ 64) (used + 1)) (reduceOf (wordsAt inner outer (base + 1) (n - 1)) u (used + 1))) (sym (test ∙ ap (leb (2 ^ 64 % u)) half))
+
+  pub reduce-accept : (high : ℕ) → t ≡ true → high ≡ word * u / 2 ^ 64 → Index high (used + 1) ≡ reduceOf (wordsAt inner outer base n) u used
+  reduce-accept high h e = sym (turn ∙ ap (λ (b : Bool). pick b (Index (word * u / 2 ^ 64) (used + 1)) (reduceOf (wordsAt inner outer (base + 1) (n - 1)) u (used + 1))) h ∙ ap (λ (i : ℕ). Index i (used + 1)) (sym e))
+
+  pub reduce-reject : t ≡ false → reduceOf (wordsAt inner outer (base + 1) (n - 1)) u (used + 1) ≡ reduceOf (wordsAt inner outer base n) u used
+  reduce-reject h = sym (turn ∙ ap (λ (b : Bool). pick b (Index (word * u / 2 ^ 64) (used + 1)) (reduceOf (wordsAt inner outer (base + 1) (n - 1)) u (used + 1))) h)
+
+pub reduce-none : (inner outer base u used n : ℕ) → n ≡ 0 → allRejected used ≡ reduceOf (wordsAt inner outer base n) u used
+unfolding reduceOf wordsAt
+reduce-none inner outer base u used n e = rw e
+
+-- ---- a draw: no words, the first, the others
+
+pub draw-none : (inner outer base u cap : ℕ) → cap ≡ 0 → allRejected 0 ≡ drawOf inner outer base u cap
+unfolding drawOf
+draw-none inner outer base u cap e = reduce-none inner outer base u 0 cap e
+
+module _ (inner outer base u cap word low : ℕ) (t : Bool) (more : cap ≡ 0 → ⊥)
+    (is : word ≡ wordOf inner outer base)
+    (half : low ≡ word * u % 2 ^ 64)
+    (test : t ≡ leb (2 ^ 64 % u) low) where
+  pub draw-first : (high : ℕ) → t ≡ true → high ≡ word * u / 2 ^ 64 → Index high 1 ≡ drawOf inner outer base u cap
+  unfolding drawOf
+  draw-first high h e = reduce-accept inner outer base u 0 cap word low t (omega arith) is half test high h e
+
+  pub draw-others : (r : Drawn) → t ≡ false → r ≡ reduceOf (wordsAt inner outer (base + 1) (cap - 1)) u 1 → r ≡ drawOf inner outer base u cap
+  unfolding drawOf
+  draw-others r h e = e ∙ reduce-reject inner outer base u 0 cap word low t (omega arith) is half test h
+
+-- ---- a loop over the words: what is left gives what the whole gives
+
+pub record Redrawn (inner outer base u cap used : ℕ) : Type 0 where
+  pub from : 0 < used
+  pub most : used ≤ cap
+  pub rest : reduceOf (wordsAt inner outer (base + used) (cap - used)) u used ≡ reduceOf (wordsAt inner outer (base + 1) (cap - 1)) u 1
+
+pub redrawn-none : (inner outer base u cap : ℕ) → 0 < cap → Redrawn inner outer base u cap 1
+redrawn-none inner outer base u cap h = record { from = omega arith; most = omega arith; rest = refl }
+
+module _ (inner outer base u cap used : ℕ) (r : Redrawn inner outer base u cap used) where
+  pub redrawn-end : cap ≤ used → allRejected used ≡ reduceOf (wordsAt inner outer (base + 1) (cap - 1)) u 1
+  redrawn-end h = reduce-none inner outer (base + used) u used (cap - used) (omega arith) ∙ r .rest
+
+  module _ (word low : ℕ) (t : Bool) (more : used < cap)
+      (is : word ≡ wordOf inner outer (base + used))
+      (half : low ≡ word * u % 2 ^ 64)
+      (test : t ≡ leb (2 ^ 64 % u) low) where
+    pub redrawn-accept : (high : ℕ) → t ≡ true → high ≡ word * u / 2 ^ 64 → Index high (used + 1) ≡ reduceOf (wordsAt inner outer (base + 1) (cap - 1)) u 1
+    redrawn-accept high h e = reduce-accept inner outer (base + used) u used (cap - used) word low t (omega arith) is half test high h e ∙ r .rest
+
+    pub redrawn-more : t ≡ false → Redrawn inner outer base u cap (used + 1)
+    redrawn-more h =
+        let b : base + used + 1 ≡ base + (used + 1) = omega arith in
+        let n : cap - used - 1 ≡ cap - (used + 1) = omega arith in
+        let e = reduce-reject inner outer (base + used) u used (cap - used) word low t (omega arith) is half test h in
+        record { from = omega arith; most = omega arith; rest = rw (b, n) at e ∙ r .rest }
+
+-- ---- bounds
+
+-- a draw's index is below u, it took a word and no more than it may, and a refusal tells all it may
+unfoldable pub DrawnIn : (u cap : ℕ) → Drawn → Type 0
+DrawnIn u cap (Index i n) = (i < u) × (0 < n) × (n ≤ cap)
+DrawnIn u cap (Refused r) = r .words ≡ cap
+
+either : (u cap : ℕ) (t : Bool) (a b : Drawn) → DrawnIn u cap a → DrawnIn u cap b → DrawnIn u cap (pick t a b)
+either u cap true a b ha hb = ha
+either u cap false a b ha hb = hb
+
+reduce-in : (inner outer base u cap n used : ℕ) → 0 < u → used + n ≡ cap → DrawnIn u cap (reduceOf (wordsAt inner outer base n) u used)
+unfolding reduceOf wordsAt DrawnIn
+reduce-in inner outer base u cap zero used pos e = omega arith
+reduce-in inner outer base u cap (suc n) used pos e =
+    either u cap (leb (2 ^ 64 % u) (wordOf inner outer base * u % 2 ^ 64)) _ _
+    (high-below (wordOf inner outer base) u (word-below inner outer base) pos, omega arith, omega arith)
+    (reduce-in inner outer (base + 1) u cap n (used + 1) pos (omega arith))
+
+pub draw-in : (inner outer base u cap : ℕ) → 0 < u → DrawnIn u cap (drawOf inner outer base u cap)
+unfolding drawOf
+draw-in inner outer base u cap pos = reduce-in inner outer base u cap cap 0 pos (omega arith)
+
+-- what an index that was drawn is
+pub record Drew (u cap index words : ℕ) : Type 0 where
+  pub below : index < u
+  pub some : 0 < words
+  pub most : words ≤ cap
+
+pub in-index : (u cap i n : ℕ) (d : Drawn) → d ≡ Index i n → DrawnIn u cap d → Drew u cap i n
+unfolding DrawnIn
+in-index u cap i n d e h = let g = subst (DrawnIn u cap) e h in record { below = g .0; some = g .1; most = g .2 }
+
+pub in-refused : (u cap : ℕ) (r : RangeRefusal) (d : Drawn) → d ≡ Refused r → DrawnIn u cap d → r .words ≡ cap
+unfolding DrawnIn
+in-refused u cap r d e h = subst (DrawnIn u cap) e h
+
+-- the laws that callers use: an index drawn is below u and took from 1 to cap words, a refusal tells the cap
+pub draw-index : (inner outer base u cap i n : ℕ) → 0 < u → drawOf inner outer base u cap ≡ Index i n → Drew u cap i n
+draw-index inner outer base u cap i n pos e = in-index u cap i n _ e (draw-in inner outer base u cap pos)
+
+pub draw-refused : (inner outer base u cap : ℕ) (r : RangeRefusal) → 0 < u → drawOf inner outer base u cap ≡ Refused r → r .words ≡ cap
+draw-refused inner outer base u cap r pos e = in-refused u cap r _ e (draw-in inner outer base u cap pos)
+
+pub elastic-draw-index : (seed identity level probe u cap i n : ℕ) → 0 < u → elasticDrawOf seed identity level probe u cap ≡ Index i n → Drew u cap i n
+unfolding elasticDrawOf
+elastic-draw-index seed identity level probe u cap i n pos e = draw-index _ _ _ u cap i n pos e
+
+pub funnel-draw-index : (seed identity : ℕ) (domain : Domain) (probe u cap i n : ℕ) → 0 < u → funnelDrawOf seed identity domain probe u cap ≡ Index i n → Drew u cap i n
+unfolding funnelDrawOf
+funnel-draw-index seed identity domain probe u cap i n pos e = draw-index _ _ _ u cap i n pos e
+
+-- the core called with an identity's keys and a probe's first counter draws what the definition draws
+pub elastic-core : (seed identity level probe u cap key base : ℕ) → key ≡ elasticKeyOf seed identity → base ≡ elasticCounterOf level probe 0
+    → drawOf key key base u cap ≡ elasticDrawOf seed identity level probe u cap
+unfolding elasticDrawOf
+elastic-core seed identity level probe u cap key base k b = rw (k, b)
+
+pub funnel-core : (seed identity : ℕ) (domain : Domain) (probe u cap inner outer base : ℕ)
+    → inner ≡ funnelInOf seed identity → outer ≡ funnelOutOf seed identity → base ≡ funnelCounterOf domain probe 0
+    → drawOf inner outer base u cap ≡ funnelDrawOf seed identity domain probe u cap
+unfolding funnelDrawOf
+funnel-core seed identity domain probe u cap inner outer base i o b = rw (i, o, b)
+
+-- ---- the bare reductions, in turn
+
+module _ (seed identity level probe u cap : ℕ) where
+  pub elastic-upper : u ≡ 0 → reduced.Upper ≡ elasticReduceOf seed identity level probe u cap
+  unfolding elasticReduceOf
+  elastic-upper e = sym (rw (eq-eqb u 0 e))
+
+  module _ (nu : u ≡ 0 → ⊥) where
+    pub elastic-level : 32 ≤ level → reduced.Counter ≡ elasticReduceOf seed identity level probe u cap
+    unfolding elasticReduceOf
+    elastic-level h = sym (rw (ne-eqb u 0 nu, le-leb 32 level h))
+
+    module _ (hl : level < 32) where
+      pub elastic-probe : 8192 ≤ probe → reduced.Counter ≡ elasticReduceOf seed identity level probe u cap
+      unfolding elasticReduceOf
+      elastic-probe h = sym (rw (ne-eqb u 0 nu, lt-leb 32 level hl, le-leb 8192 probe h))
+
+      module _ (hp : probe < 8192) where
+        pub elastic-cap : 8 < cap → reduced.Counter ≡ elasticReduceOf seed identity level probe u cap
+        unfolding elasticReduceOf
+        elastic-cap h = sym (rw (ne-eqb u 0 nu, lt-leb 32 level hl, lt-leb 8192 probe hp, lt-ltb 8 cap h))
+
+        pub elastic-drawn : cap ≤ 8 → reducedOf (elasticDrawOf seed identity level probe u cap) ≡ elasticReduceOf seed identity level probe u cap
+        unfolding elasticReduceOf
+        elastic-drawn h = sym (rw (ne-eqb u 0 nu, lt-leb 32 level hl, lt-leb 8192 probe hp, le-ltb 8 cap h))
+
+module _ (seed identity : ℕ) (domain : Domain) (probe u cap : ℕ) where
+  pub funnel-upper : u ≡ 0 → reduced.Upper ≡ funnelReduceOf seed identity domain probe u cap
+  unfolding funnelReduceOf
+  funnel-upper e = sym (rw (eq-eqb u 0 e))
+
+  module _ (nu : u ≡ 0 → ⊥) where
+    pub funnel-level : 2 ^ 46 ≤ levelOf domain → reduced.Counter ≡ funnelReduceOf seed identity domain probe u cap
+    unfolding funnelReduceOf
+    funnel-level h = sym (rw (ne-eqb u 0 nu, le-leb (2 ^ 46) (levelOf domain) h))
+
+    module _ (hl : levelOf domain < 2 ^ 46) where
+      pub funnel-probe : 256 ≤ probe → reduced.Counter ≡ funnelReduceOf seed identity domain probe u cap
+      unfolding funnelReduceOf
+      funnel-probe h = sym (rw (ne-eqb u 0 nu, lt-leb (2 ^ 46) (levelOf domain) hl, le-leb 256 probe h))
+
+      module _ (hp : probe < 256) where
+        pub funnel-cap : 256 < cap → reduced.Counter ≡ funnelReduceOf seed identity domain probe u cap
+        unfolding funnelReduceOf
+        funnel-cap h = sym (rw (ne-eqb u 0 nu, lt-leb (2 ^ 46) (levelOf domain) hl, lt-leb 256 probe hp, lt-ltb 256 cap h))
+
+        pub funnel-drawn : cap ≤ 256 → reducedOf (funnelDrawOf seed identity domain probe u cap) ≡ funnelReduceOf seed identity domain probe u cap
+        unfolding funnelReduceOf
+        funnel-drawn h = sym (rw (ne-eqb u 0 nu, lt-leb (2 ^ 46) (levelOf domain) hl, lt-leb 256 probe hp, le-ltb 256 cap h))
