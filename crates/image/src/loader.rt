@@ -14,6 +14,7 @@ use crate::field::low_after;
 use crate::reader::Head;
 use crate::reader::Outcome;
 use crate::reader::read;
+use funnel::table::FunnelTable;
 use words::bytes::read64;
 
 // What loading into valid buffers comes to: IMAGE with its place, FOREIGN, or the number of entries and the label's place.
@@ -29,11 +30,14 @@ pub enum Filled {
     },
 }
 
-// The buffers of the table (n, e, seed) from an image of it.
-pub fn load(n: u64, e: u64, seed: u64, words: &mut [u64], flags: &mut [u8], image: &[u8]) -> Filled
-    requires { ⌜ (length (now words) ≡ n) × (length (now flags) ≡ n) ⌝ }
-    ensures { λ r. ⌜ loads r (now (words .exit)) (now (flags .exit)) ≡ loadOf n e seed (now (words .entry)) (now (flags .entry)) (now (image .entry)) ⌝ }
+// The buffers of a table, which have its length, from an image of it.
+pub fn load(table: FunnelTable, words: &mut [u64], flags: &mut [u8], image: &[u8]) -> Filled
+    requires { ⌜ (length (now words) ≡ table .n) × (length (now flags) ≡ table .n) ⌝ }
+    ensures { λ r. ⌜ loads r (now (words .exit)) (now (flags .exit)) ≡ loadOf (table .n) (table .e) (table .seed) (now (words .entry)) (now (flags .entry)) (now (image .entry)) ⌝ }
 {
+    let n = table.n;
+    let e = table.e as u64;
+    let seed = table.seed;
     match read(image) {
         Outcome::Bad { place } => {
             return Filled::Image {

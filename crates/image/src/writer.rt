@@ -12,6 +12,7 @@ use crate::dirty::Scan;
 use crate::dirty::scan_table;
 use crate::field::ENTRY_SIZE;
 use crate::field::FIELD_ENTRIES;
+use funnel::table::FunnelTable;
 use refusal::Gate;
 use words::bytes::write16;
 use words::bytes::write32;
@@ -25,18 +26,16 @@ pub enum Written {
     Done { len: u64 },
 }
 
-// The image of a table of n slots, or why there is none.
+// The image of a table whose buffers have its length, or why there is none.
 pub fn write(
+    table: FunnelTable,
     words: &[u64],
     flags: &[u8],
-    n: u64,
-    e: u64,
-    seed: u64,
     label: &[u8],
     out: &mut [u8],
 ) -> Written
     requires { ⌜ (length (now words) ≡ length (now flags)) × (length (now flags) ≤ 2 ^ 32) × (length (now label) ≤ labelMost) ⌝ }
-    ensures { λ r. ⌜ writes r (now (out .exit)) ≡ writeOf n e seed (now (label .entry)) (now (words .entry)) (now (flags .entry)) (now (out .entry)) ⌝ }
+    ensures { λ r. ⌜ writes r (now (out .exit)) ≡ writeOf (table .n) (table .e) (table .seed) (now (label .entry)) (now (words .entry)) (now (flags .entry)) (now (out .entry)) ⌝ }
 {
     match scan_table(words, flags) {
         Scan::Dirty { slot } => {
@@ -47,7 +46,7 @@ pub fn write(
             if out.len() < need {
                 return Written::Room;
             }
-            write_all(words, flags, n, e, seed, label, count, out);
+            write_all(table, words, flags, label, count, out);
             return Written::Done { len: need as u64 };
         }
     }
@@ -66,26 +65,28 @@ fn image_size(label_len: usize, count: usize) -> usize
     43 + label_len + rest
 }
 
-// The whole image, into room that is enough.
+// The whole image, into room that is enough. Field 6 is the number of occupied flags, whatever count the state has.
 fn write_all(
+    table: FunnelTable,
     words: &[u64],
     flags: &[u8],
-    n: u64,
-    e: u64,
-    seed: u64,
     label: &[u8],
     count: usize,
     out: &mut [u8],
 )
     requires { ⌜ (length (now words) ≡ length (now flags)) × (count ≡ length (entriesTo (now words) (now flags) 0)) × (length (now label) ≤ labelMost) × (sizeOf (length (now label)) count ≤ length (now out)) ⌝ }
-    ensures { λ r. ⌜ now (out .exit) ≡ sets (now (out .entry)) 0 (imageOf n e seed (now (label .entry)) (entriesTo (now (words .entry)) (now (flags .entry)) 0)) ⌝ }
+    ensures { λ r. ⌜ now (out .exit) ≡ sets (now (out .entry)) 0 (imageOf (table .n) (table .e) (table .seed) (now (label .entry)) (entriesTo (now (words .entry)) (now (flags .entry)) 0)) ⌝ }
 {
+    let n = table.n;
+    let e = table.e as u64;
+    let seed = table.seed;
+    let entries = count as u64;
     write_field8(out, 0, 1, n);
     write_field4(out, 11, 2, e);
     write_field8(out, 18, 3, seed);
     let p = write_label(label, out, 29);
     let q = write_fields(words, flags, count, out, p);
-    write_field8(out, q, 6, count as u64);
+    write_field8(out, q, 6, entries);
 }
 
 // A field of a number of eight bytes.

@@ -236,3 +236,51 @@ module _ (n : ℕ) (es : List Entry) (r : rising n 0 es ≡ true) where
   pub scan-filled : scanOf (fillWords (replicate n 0) es) (fillFlags (replicate n 0) es) ≡ Clean (length es)
   unfolding scanOf
   scan-filled = let z : 0 + length es ≡ length es = omega arith in rw length-filled (filled .scan ∙ ap Clean z)
+
+-- ---- the smallest dirty slot
+
+-- d is the smallest dirty one of the slots from s on
+pub record SmallestDirty (words flags : List ℕ) (s d : ℕ) : Type 0 where
+  pub from : s ≤ d
+  pub here : dirty (getD words d 0) (getD flags d 0) ≡ true
+  pub below : (t : ℕ) → s ≤ t → t < d → dirty (getD words t 0) (getD flags t 0) ≡ false
+
+scan-smallest-from : (words flags : List ℕ) (k s c d : ℕ) → scanFrom words flags s k c ≡ Dirty d → SmallestDirty words flags s d
+unfolding scanFrom
+scan-smallest-from words flags zero s c d h = let z : _≡_ {A = ℕ} 0 1 = cc in absurd (omega arith)
+scan-smallest-from words flags (suc k) s c d h = go (dirty (getD words s 0) (getD flags s 0)) refl h (λ e g. scan-smallest-from words flags k (suc s) e d g)
+  where
+    go : (x : Bool) → dirty (getD words s 0) (getD flags s 0) ≡ x → pick x (Dirty s) (scanFrom words flags (suc s) k (pick (eqb (getD flags s 0) 0) c (c + 1))) ≡ Dirty d
+        → ((e : ℕ) → scanFrom words flags (suc s) k e ≡ Dirty d → SmallestDirty words flags (suc s) d) → SmallestDirty words flags s d
+    go true e h ih = let q : s ≡ d = cc in rw (← q) (record { from = omega arith; here = e; below = λ t a b. absurd (omega arith) })
+    go false e h ih =
+        let r = ih _ h in
+        let f = r .from in
+        record { from = omega arith; here = r .here;
+        below = λ t a b. cases (eqb t s) (λ y. let q : t ≡ s = eqb-true _ _ y in rw q e) (λ y. let n : t ≡ s → ⊥ = eqb-false _ _ y in let m : suc s ≤ t = omega (arith, n) in r .below t m b) }
+
+-- "DIRTY: .. smallest such slot"
+pub scan-smallest : (words flags : List ℕ) (d : ℕ) → scanOf words flags ≡ Dirty d → SmallestDirty words flags 0 d
+unfolding scanOf
+scan-smallest words flags d h = scan-smallest-from words flags (length flags) 0 0 d h
+
+-- a table with no dirty slot has none
+clean-from : (words flags : List ℕ) (k s c m : ℕ) → scanFrom words flags s k c ≡ Clean m → (t : ℕ) → s ≤ t → t < s + k → dirty (getD words t 0) (getD flags t 0) ≡ false
+clean-from words flags zero s c m h t a b = absurd (omega arith)
+clean-from words flags (suc k) s c m h t a b =
+    let r = clean-at words flags s k c m h in
+    cases (eqb t s) (λ y. let q : t ≡ s = eqb-true _ _ y in rw q (r .here))
+    (λ y. let n : t ≡ s → ⊥ = eqb-false _ _ y in clean-from words flags k (suc s) _ m (r .rest) t (omega (arith, n)) (omega arith))
+
+pub scan-clean : (words flags : List ℕ) (c : ℕ) → scanOf words flags ≡ Clean c → (t : ℕ) → t < length flags → dirty (getD words t 0) (getD flags t 0) ≡ false
+unfolding scanOf
+scan-clean words flags c h t l = clean-from words flags (length flags) 0 0 c h t (omega arith) (omega arith)
+
+-- ---- how many entries there can be
+
+pub rising-few : (n f : ℕ) (es : List Entry) → rising n f es ≡ true → f ≤ n → length es + f ≤ n
+rising-few n f [] h l = omega arith
+rising-few n f (x ∷ es) h l =
+    let r = risen-head n f x es h in
+    let i = rising-few n (x .slot + 1) es (r .rest) (omega arith) in
+    omega arith

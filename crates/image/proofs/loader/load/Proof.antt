@@ -8,6 +8,9 @@ use borrow.Author.Needs.{needs}
 use Rattle.image.proofs.loader.load.Statement.{statement}
 use Rattle.image.proofs.loader.load.Tie as tie
 
+cast-e : tie.Need-cast-e
+cast-e c = search needs
+
 read-requires : tie.Need-read-requires
 read-requires c κs = search needs
 
@@ -33,7 +36,7 @@ clear-flags-requires : tie.Need-clear-flags-requires
 clear-flags-requires c κs = search needs
 
 fill-image-requires : tie.Need-fill-image-requires
-fill-image-requires c κs = let p = c .before .before .before .before .before .before .before .before .before .before .before .before .before .before .before .before .before .before .before .pre in
+fill-image-requires c κs = let p = c .before .before .before .before .before .before .before .before .before .before .before .before .before .before .before .before .before .before .before .before .pre in
     let r = sym (c .before .before .before .before .before .before .before .before .before .before .before .before .before .before .before .read .ensures) ∙ c .before .before .before .before .before .before .before .before .before .before .before .before .before .head .given .1 in
     let k = slots-are _ _ r _ _ _ (sym (c .before .before .before .before .before .before .before .before .before .before .before .own .ensures) ∙ not-false _ (c .before .before .before .before .before .before .before .before .before .before .if1 .left)) in
     (good-is _ _ r, rw (c .before .before .before .before .before .before .before .before .clear-words .ensures, length-replicate) (omega (arith, p .0, k)), rw (c .before .before .before .before .clear-flags .ensures, length-replicate) (omega (arith, p .1, k)))
@@ -53,6 +56,7 @@ pub load-spec : {M : Type 1} → statement M
 load-spec =
     tie.close
     (tie.spec
+    cast-e
     read-requires
     enum-known-place
     returns
