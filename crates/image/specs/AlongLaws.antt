@@ -1,4 +1,4 @@
--- The reading of an image as a loop over its fields makes it. Assumes nothing.
+-- The reader's loop: the reading from a cursor on is the reading of the whole. Assumes nothing.
 use mathlib.Core.Path.{_≡_, refl, ap, _∙_}
 use mathlib.Core.List.{List, []}
 use Prim.Native.Nat.{ℕ, suc, _+_, _*_, _-_, _<_, _≤_}

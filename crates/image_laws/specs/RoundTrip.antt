@@ -110,16 +110,17 @@ module _ (n e seed : ℕ) (label words flags : List ℕ) (m : Machine n e seed w
 
 -- ---- whatever the loader accepts, the writer writes again
 
-record LoadedAll (n e seed : ℕ) (words flags image : List ℕ) (count labelAt labelLen : ℕ) (words' flags' : List ℕ) : Type 0 where
-  s : Seen
-  read : readOf image ≡ good s
-  n-is : s .n ≡ n
-  e-is : s .e ≡ e
-  seed-is : s .seed ≡ seed
-  at-is : labelAt ≡ s .labelAt
-  len-is : labelLen ≡ s .labelLen
-  words-are : words' ≡ fillWords (replicate (length words) 0) (s .entries)
-  flags-are : flags' ≡ fillFlags (replicate (length flags) 0) (s .entries)
+pub record LoadedAll (n e seed : ℕ) (words flags image : List ℕ) (count labelAt labelLen : ℕ) (words' flags' : List ℕ) : Type 0 where
+  pub s : Seen
+  pub read : readOf image ≡ good s
+  pub n-is : s .n ≡ n
+  pub e-is : s .e ≡ e
+  pub seed-is : s .seed ≡ seed
+  pub count-is : count ≡ length (s .entries)
+  pub at-is : labelAt ≡ s .labelAt
+  pub len-is : labelLen ≡ s .labelLen
+  pub words-are : words' ≡ fillWords (replicate (length words) 0) (s .entries)
+  pub flags-are : flags' ≡ fillFlags (replicate (length flags) 0) (s .entries)
 
 of-table : (n e seed n' e' seed' : ℕ) → ofTable n e seed n' e' seed' ≡ true → (n' ≡ n) × (e' ≡ e) × (seed' ≡ seed)
 unfolding ofTable
@@ -131,7 +132,7 @@ of-table n e seed n' e' seed' h = go (eqb n' n) refl (eqb e' e) refl (eqb seed' 
     go true p false q z r h = not-both (sym h)
     go false p y q z r h = not-both (sym h)
 
-loaded-all : (n e seed : ℕ) (words flags image : List ℕ) (count labelAt labelLen : ℕ) (words' flags' : List ℕ)
+pub loaded-all : (n e seed : ℕ) (words flags image : List ℕ) (count labelAt labelLen : ℕ) (words' flags' : List ℕ)
     → loadOf n e seed words flags image ≡ loads (filled.Done count labelAt labelLen) words' flags' → LoadedAll n e seed words flags image count labelAt labelLen words' flags'
 unfolding loadOf loadAfter loadGood
 loaded-all n e seed words flags image count la ll words' flags' h = go (readOf image) refl h
@@ -141,6 +142,7 @@ loaded-all n e seed words flags image count la ll words' flags' h = go (readOf i
     done s r false o h = let q : filled.Foreign ≡ filled.Done count la ll = ap (λ (w : Loads). w .answer) h in let z : _≡_ {A = ℕ} 0 1 = cc in absurd (omega arith)
     done s r true o h =
         let q : filled.Done (length (s .entries)) (s .labelAt) (s .labelLen) ≡ filled.Done count la ll = ap (λ (w : Loads). w .answer) h in
+        let d : length (s .entries) ≡ count = cc in
         let a : s .labelAt ≡ la = cc in
         let l : s .labelLen ≡ ll = cc in
         let f = of-table n e seed (s .n) (s .e) (s .seed) o in
@@ -150,6 +152,7 @@ loaded-all n e seed words flags image count la ll words' flags' h = go (readOf i
           n-is = f .0;
           e-is = f .1;
           seed-is = f .2;
+          count-is = sym d;
           at-is = sym a;
           len-is = sym l;
           words-are = sym (ap (λ (w : Loads). w .words) h);

@@ -1,4 +1,4 @@
--- `image::dirty::scan_table` meets its contract. Assumes nothing.
+-- `image::dirty::scan_table` meets its contract. The loop's invariant: the slots left say what the whole table says. The measure is their number. Assumes nothing.
 use Rattle.image.specs.DirtyLaws.{Scanning, scan-none, scan-flag, scan-word, scan-vacant, scan-taken, scan-end}
 use lib.ListN.{length}
 use borrow.Author.Needs.{needs}

@@ -1,4 +1,4 @@
--- `image::loader::clear_words` meets its contract. Assumes nothing.
+-- `image::loader::clear_words` meets its contract. The loop's invariant: zeros up to here, and from here on what was there. The measure is what is left. Assumes nothing.
 use Prim.Native.Nat.{_≤_, _-_}
 use native.Mathlib.Omega.{arith}
 use mathlib.Core.Path.{_≡_, refl}

@@ -1,4 +1,5 @@
--- `image::loader::fill_field` meets its contract. Assumes nothing.
+-- `image::loader::fill_field` meets its contract. The loop's invariant: the entries left fill to what all entries fill to, and their slots are in both buffers.
+-- The measure is their number. Assumes nothing.
 use Rattle.image.specs.Format.{entrySize}
 use Rattle.image.specs.FillLaws.{Filling, filling-none, filling-slot, filling-more, filling-end}
 use lib.ListN.{length, length-set}

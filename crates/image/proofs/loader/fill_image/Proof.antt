@@ -1,4 +1,5 @@
--- `image::loader::fill_image` meets its contract. Assumes nothing.
+-- `image::loader::fill_image` meets its contract. The loop's invariant: what is read from here on is right, and the buffers hold the entries before it. The
+-- measure is what is left of the image. Assumes nothing.
 use Rattle.image.specs.LoadingLaws.{Onward, onward-none, onward-wrong, onward-sizes, onward-framing, onward-last, onward-fits, onward-five, onward-other}
 use lib.ListN.{length}
 use borrow.Author.Needs.{needs}

@@ -1,4 +1,5 @@
--- `image::reader::read` meets its contract. Assumes nothing.
+-- `image::reader::read` meets its contract. The loop's invariant: the cursor is the numbers of what was seen, and the reading from here on is the
+-- reading of the whole. The measure is what is left of the image. Assumes nothing.
 use Rattle.image.specs.AlongLaws.{Along, along-none, along-at, along-count, along-wrong, along-framing, along-off, along-after, along-good, along-more}
 use Rattle.image.specs.CursorLaws.{took-at}
 use Rattle.image.specs.Cursor.{outcomeOf}

@@ -1,4 +1,4 @@
--- `image::reader::rise` meets its contract. Assumes nothing.
+-- `image::reader::rise` meets its contract. The loop's invariant: the entries left, with the floor reached, say what all entries say. The measure is their number. Assumes nothing.
 use Rattle.image.specs.RiseLaws.{Rises, rises-none, rises-low, rises-high, rises-more, rises-end}
 use lib.ListN.{length}
 use native.Mathlib.Omega.{arith}

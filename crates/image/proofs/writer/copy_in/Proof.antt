@@ -1,4 +1,4 @@
--- `image::writer::copy_in` meets its contract. Assumes nothing.
+-- `image::writer::copy_in` meets its contract. The loop's invariant: the bytes left to copy give the whole copy. The measure is their number. Assumes nothing.
 use Rattle.image.specs.ImageLaws.{Copying, copying-none, copying-more, copying-end}
 use lib.ListN.{length}
 use native.Mathlib.Omega.{arith}

@@ -1,4 +1,4 @@
--- `image::writer::write_entries` meets its contract. Assumes nothing.
+-- `image::writer::write_entries` meets its contract. The loop's invariant: what is left to write gives what was to be written. The measure is the slots left. Assumes nothing.
 use Rattle.image.specs.EntryLaws.{Writing, writing-none, writing-slot, writing-skip, writing-put, writing-end}
 use lib.ListN.{length}
 use borrow.Author.Needs.{needs}

@@ -1,4 +1,4 @@
--- `image::writer::write_fields` meets its contract. Assumes nothing.
+-- `image::writer::write_fields` meets its contract. The loop's invariant: the fields left to write give all fields. The measure is the entries left. Assumes nothing.
 use Rattle.image.specs.EntryFieldLaws.{Fields, fields-none, fields-room, fields-more, fields-end}
 use lib.Seq.{length-sets}
 use lib.ListN.{length}
