@@ -6,16 +6,14 @@ use crate::calls;
 use crate::exact::geometry::PaperConfig;
 use crate::measure::Table;
 
-/// Sizes with a layout, from the smallest the exponent has to the largest there is.
+/// Sizes with a layout: at each of some steps from the smallest special part that can be to the largest table, the first.
 fn sizes(e: u32) -> Vec<u64> {
-    let smallest = (1_u64 << (e + 2)) * 4;
+    let largest = 1_u64 << 32;
+    let mut from = (1_u64 << (e + 2)) * 4;
     let mut found = Vec::new();
-    let mut n = smallest;
-    while n <= 1 << 32 && found.len() < 64 {
-        if calls::funnel_plan(n, e).is_some() {
-            found.push(n);
-        }
-        n += n / 3 + 7;
+    while from <= largest {
+        found.extend((from..largest.min(from + 200)).find(|&n| calls::funnel_plan(n, e).is_some()));
+        from += from / 16 + 1;
     }
     found
 }
@@ -30,7 +28,7 @@ pub fn rows(table: &mut Table) {
         let sizes = sizes(e);
         assert!(!sizes.is_empty(), "no layout at exponent {e}");
         let plans: Vec<_> = sizes.iter().map(|&n| calls::funnel_plan(n, e).unwrap()).collect();
-        let turns = 2000 / sizes.len();
+        let turns = 2000_usize.div_ceil(sizes.len());
         let operations = turns * sizes.len();
         let theirs = || {
             for _ in 0..turns {

@@ -12,6 +12,7 @@ mod exact {
 }
 
 mod calls;
+mod funnels;
 mod layouts;
 mod measure;
 mod probes;
@@ -21,4 +22,5 @@ fn main() {
     let mut table = measure::Table::new(wanted);
     layouts::rows(&mut table);
     probes::rows(&mut table);
+    funnels::rows(&mut table);
 }

@@ -37,6 +37,38 @@ impl Table {
             times[0].push(time(&mut ours));
             times[1].push(time(&mut theirs));
         }
+        self.print(name, operations, times);
+    }
+
+    /// One row whose sides are made ready before each round, untimed.
+    #[allow(clippy::too_many_arguments)]
+    pub fn row_after<A, B>(
+        &mut self,
+        name: &str,
+        operations: usize,
+        our_state: &mut A,
+        their_state: &mut B,
+        mut ready_ours: impl FnMut(&mut A),
+        mut ready_theirs: impl FnMut(&mut B),
+        mut ours: impl FnMut(&mut A),
+        mut theirs: impl FnMut(&mut B),
+    ) {
+        let mut times = [Vec::new(), Vec::new()];
+        for round in 0..=ROUNDS {
+            ready_ours(our_state);
+            ready_theirs(their_state);
+            let mine = time(&mut || ours(our_state));
+            let other = time(&mut || theirs(their_state));
+            // The first round only warms up.
+            if round > 0 {
+                times[0].push(mine);
+                times[1].push(other);
+            }
+        }
+        self.print(name, operations, times);
+    }
+
+    fn print(&self, name: &str, operations: usize, times: [Vec<f64>; 2]) {
         let [ours, theirs] = times.map(|mut side| {
             side.sort_by(f64::total_cmp);
             side[side.len() / 2] / operations as f64

@@ -1,4 +1,6 @@
 // Calls for the measurements of bench/, on numbers and slices.
+mod funnels;
+
 use geometry::funnel::FunnelPlan;
 use geometry::funnel::FunnelPlanned;
 use geometry::funnel::funnel_plan;
@@ -10,7 +12,7 @@ use probe::range::funnel_draw;
 use probe::word::FunnelKey;
 use probe::word::funnel_key;
 
-fn plan_of(p: &[u64; 11]) -> FunnelPlan {
+pub fn plan_of(p: &[u64; 11]) -> FunnelPlan {
     FunnelPlan {
         maximum: p[0],
         alpha: p[1],
@@ -26,7 +28,7 @@ fn plan_of(p: &[u64; 11]) -> FunnelPlan {
     }
 }
 
-fn put_plan(plan: FunnelPlan, p: &mut [u64; 11]) {
+pub fn put_plan(plan: FunnelPlan, p: &mut [u64; 11]) {
     p[0] = plan.maximum;
     p[1] = plan.alpha;
     p[2] = plan.beta;
@@ -41,7 +43,12 @@ fn put_plan(plan: FunnelPlan, p: &mut [u64; 11]) {
 }
 
 #[no_mangle]
-pub extern "C" fn bench_funnel_plan(n: u64, e: u32, plan: &mut [u64; 11], counts: &mut [u64; 118]) -> bool {
+pub extern "C" fn bench_funnel_plan(
+    n: u64,
+    e: u32,
+    plan: &mut [u64; 11],
+    counts: &mut [u64; 118],
+) -> bool {
     match funnel_plan(n, e, counts) {
         FunnelPlanned::Refused(gate) => false,
         FunnelPlanned::Plan(p) => {
@@ -52,7 +59,12 @@ pub extern "C" fn bench_funnel_plan(n: u64, e: u32, plan: &mut [u64; 11], counts
 }
 
 #[no_mangle]
-pub extern "C" fn bench_is_funnel_plan(n: u64, e: u32, plan: &[u64; 11], counts: &[u64; 118]) -> bool {
+pub extern "C" fn bench_is_funnel_plan(
+    n: u64,
+    e: u32,
+    plan: &[u64; 11],
+    counts: &[u64; 118],
+) -> bool {
     is_funnel_plan(n, e, plan_of(plan), counts)
 }
 

@@ -1,3 +1,5 @@
+pub mod CallLaws
+pub mod Calls
 pub mod Every
 pub mod EveryLaws
 pub mod FindLaws

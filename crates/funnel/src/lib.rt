@@ -1,5 +1,6 @@
 // Funnel tables.
 
+pub mod calls;
 pub mod insert;
 pub mod place_all;
 pub mod scan;

@@ -1,23 +1,23 @@
 -- When there is a plan: exactly where there is a special length, which always comes with a complete set of counts. It can
 -- be decided whether there is one, and whether given numbers are it. Assumes nothing.
-use mathlib.Core.Path.{_≡_, refl, sym, ap, subst, _∙_}
+use mathlib.Core.Path.{_≡_, refl, sym, ap, subst}
 use mathlib.Core.List.{List, [], _∷_, _++_}
 use Prim.Native.Nat.{ℕ, zero, suc, _+_, _-_, _*_, _/_, _≤_, _<_, _∣_}
 use native.Mathlib.Nat.{lt-of-not-le}
 use native.Mathlib.Decide.{decLe, decDvd, ℕ-discrete}
 use native.Mathlib.Omega.{arith}
-use lib.ListN.{length, take, drop, getD, replicate}
+use lib.ListN.{take, getD, replicate}
 use lib.Seq.{take-at, drop-at}
 use Rattle.geometry.specs.Config.{Configured, maximum}
 use Rattle.geometry.specs.Extreme.{IsLargest}
 use Rattle.geometry.specs.Counts.{Counts}
 use Rattle.geometry.specs.CountsExist.{counts-exist}
-use Rattle.geometry.specs.Special.{Special, loglog, specialLeast, specialMost, SpecialLength}
+use Rattle.geometry.specs.Special.{loglog, specialLeast, specialMost, SpecialLength}
 use Rattle.geometry.specs.SpecialLaws.{buckets-enough}
 use Rattle.geometry.specs.LengthLaws.{length-facts}
 use Rattle.geometry.specs.LevelLaws.{counts-length}
-use Rattle.geometry.specs.Funnel.{alphaOf, betaOf, PlanNumbers, PlanCounts, IsPlan, Layout}
-use Rattle.geometry.specs.FunnelLaws.{planOf, plan-made, plan-unique}
+use Rattle.geometry.specs.Funnel.{alphaOf, betaOf, PlanCounts, IsPlan, Layout}
+use Rattle.geometry.specs.FunnelLaws.{plan-made, plan-unique}
 use Rattle.geometry.specs.declared.funnel.FunnelPlan.{FunnelPlan}
 
 -- the plan with the special length s and the first count x

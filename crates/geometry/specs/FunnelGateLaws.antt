@@ -1,23 +1,21 @@
 -- Laws of the funnel's gate: when it refuses, that it passes exactly where there is a plan, that the answer is one, and the
 -- truth of "these are the plan". Assumes nothing.
 use mathlib.Core.Bool.{Bool, true, false, not}
-use mathlib.Core.Path.{_≡_, refl, sym, ap, subst, _∙_}
+use mathlib.Core.Path.{_≡_, refl, sym, ap, _∙_}
 use mathlib.Core.List.{List}
-use Prim.Native.Nat.{ℕ, zero, suc, _+_, _-_, _≤_, _<_}
+use Prim.Native.Nat.{ℕ, zero, suc, _≤_, _<_}
 use native.Mathlib.Omega.{arith}
 use lib.Dec.{ltb}
-use lib.ListN.{length, drop, replicate}
 use borrow.Author.Tests.{lt-ltb, le-ltb}
 use Rattle.refusal.specs.declared.Gate.{Gate}
 use Rattle.refusal.specs.declared.Gate.the-variants as gate
-use Rattle.geometry.specs.declared.config.Gated.{Gated}
 use Rattle.geometry.specs.declared.config.Gated.the-variants.{Passed, Refused as GateRefused}
 use Rattle.geometry.specs.declared.funnel.FunnelPlan.{FunnelPlan}
 use Rattle.geometry.specs.declared.funnel.FunnelPlanned.{FunnelPlanned}
 use Rattle.geometry.specs.declared.funnel.FunnelPlanned.the-variants.{Plan, Refused}
 use Rattle.geometry.specs.declared.funnel.SpecialGated.{SpecialGated}
 use Rattle.geometry.specs.declared.funnel.SpecialGated.the-variants.{Length, Refused as LengthRefused}
-use Rattle.geometry.specs.Config.{Configured, refuseIf, configThen, configGate}
+use Rattle.geometry.specs.Config.{Configured, refuseIf, configGate}
 use Rattle.geometry.specs.ConfigLaws.{config-pass, config-refused, config-passed, config-facts, config-gate-facts}
 use Rattle.geometry.specs.Says.{Says}
 use Rattle.geometry.specs.SaysLaws.{says-true, says-false, says-one, truth-says}

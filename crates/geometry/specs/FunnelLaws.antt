@@ -1,12 +1,11 @@
 -- Laws of a funnel's plan: the facts that callers lean on, and that there is at most one. Assumes nothing.
 use mathlib.Core.Path.{_≡_, refl, sym, ap, subst, _∙_}
-use mathlib.Core.List.{List, [], _∷_, _++_}
-use Prim.Native.Nat.{ℕ, zero, suc, _+_, _-_, _*_, _/_, _≤_, _<_}
-use native.Mathlib.Nat.{div-mul-cancel, mul-le-mul-right, add-mul}
+use mathlib.Core.List.{List, _++_}
+use Prim.Native.Nat.{ℕ, _+_, _-_, _*_, _/_, _≤_, _<_}
+use native.Mathlib.Nat.{div-mul-cancel, mul-le-mul-right}
 use native.Mathlib.Omega.{arith}
-use lib.ListN.{length, take, drop, getD, replicate, length-take, length-append, length-replicate, getD-replicate, take-append-drop}
+use lib.ListN.{length, take, drop, getD, length-append, length-replicate, getD-replicate, take-append-drop}
 use lib.Seq.{getD-take, getD-drop}
-use Rattle.geometry.specs.ConfigLaws.{reserve-le}
 use Rattle.geometry.specs.ExtremeLaws.{largest-one}
 use Rattle.geometry.specs.Counts.{Counts, total}
 use Rattle.geometry.specs.CountsLaws.{counts-one}

@@ -2,7 +2,7 @@
 use mathlib.Core.Bool.{Bool, true, false}
 use mathlib.Core.Path.{_≡_, refl, sym, ap, _∙_}
 use mathlib.Core.List.{List}
-use Prim.Native.Nat.{ℕ, _-_, _≤_, _<_}
+use Prim.Native.Nat.{ℕ, _-_, _≤_}
 use lib.ListN.{length, take, drop, getD, replicate}
 use Rattle.geometry.specs.declared.funnel.FunnelPlan.{FunnelPlan}
 use Rattle.geometry.specs.Config.{Configured}
@@ -11,7 +11,7 @@ use Rattle.geometry.specs.SaysLaws.{says-true, says-false}
 use Rattle.geometry.specs.Counts.{Counts}
 use Rattle.geometry.specs.Filled.{Filled}
 use Rattle.geometry.specs.Special.{SpecialMeasured}
-use Rattle.geometry.specs.Funnel.{alphaOf, PlanNumbers, PlanCounts, IsPlan}
+use Rattle.geometry.specs.Funnel.{PlanNumbers, PlanCounts, IsPlan}
 use Rattle.geometry.specs.ZeroLaws.{drop-zeros}
 
 -- counts that are filled into a cleared array are those of a plan

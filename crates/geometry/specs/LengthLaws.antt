@@ -7,7 +7,6 @@ use native.Mathlib.Decide.{decLe}
 use native.Mathlib.Omega.{arith}
 use lib.Pow.{pow-mono, pow-pos}
 use Rattle.words.specs.Quotient.{ceilDiv}
-use Rattle.geometry.specs.Config.{Configured}
 use Rattle.geometry.specs.Special.{loglog, specialLeast, specialMost, SpecialLength, Found, FoundFor, Measured, SpecialMeasured}
 use Rattle.geometry.specs.Says.{Says}
 use Rattle.geometry.specs.LoglogLaws.{Loglog, loglog-facts}

@@ -28,3 +28,5 @@ pub mod FunnelGate
 pub mod FunnelGateLaws
 pub mod ZeroLaws
 pub mod FunnelTestLaws
+pub mod PartLaws
+pub mod FunnelCases

@@ -1,11 +1,10 @@
 -- The period of the special lengths, as the first meeting of two rows of multiples, and the test of a length by it. Assumes nothing.
-use mathlib.Core.Path.{_≡_, refl, sym, ap, subst, _∙_}
-use Prim.Native.Nat.{ℕ, zero, suc, _+_, _-_, _*_, _/_, _%_, _≤_, _<_, _∣_}
+use mathlib.Core.Path.{_≡_, sym, ap, subst, _∙_}
+use Prim.Native.Nat.{ℕ, _+_, _-_, _*_, _/_, _≤_, _<_, _∣_}
 use native.Mathlib.Nat.{lt-of-not-le, dvd-refl, dvd-add, dvd-sub, dvd-mul-left, dvd-mul-right, le-of-dvd, one-mul, add-mul, mul-le-mul, mul-le-mul-left, mul-le-mul-right, mul-div-cancel, mul-one, div-mul-cancel}
 use native.Mathlib.Decide.{decLe}
 use native.Mathlib.Omega.{arith}
-use Rattle.geometry.specs.Extreme.{IsLargest, IsSmallest}
-use Rattle.geometry.specs.Special.{Special, IsPeriod, Measured}
+use Rattle.geometry.specs.Special.{IsPeriod, Measured}
 use Rattle.geometry.specs.SpecialLaws.{largest-if, largest-only}
 
 -- a is k times h, b a multiple of w, and no number of buckets below k will do, nor one whose halves stay below b

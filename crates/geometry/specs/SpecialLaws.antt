@@ -4,7 +4,7 @@ use Prim.Native.Nat.{ℕ, zero, suc, _+_, _-_, _*_, _/_, _%_, _≤_, _<_, _∣_}
 use native.Mathlib.Nat.{lt-of-not-le, le-div-iff-mul-le, zero-mul, dvd-refl, dvd-add, dvd-add-iff-right, dvd-sub, dvd-mul-left, dvd-mul-right, mod-eq-zero-of-dvd, dvd-of-mod-eq-zero, div-add-mod, le-of-dvd, mul-left-comm, mul-comm, mul-le-mul-right, mod-lt, mod-le, add-mul}
 use native.Mathlib.Decide.{decLe}
 use native.Mathlib.Omega.{arith}
-use Rattle.geometry.specs.Extreme.{IsLargest, IsSmallest}
+use Rattle.geometry.specs.Extreme.{IsLargest}
 use Rattle.geometry.specs.Special.{Special, Found, Below, IsPeriod}
 
 -- beta is 2 * h; k times beta more is k times h more in the half

@@ -1,15 +1,14 @@
 -- Laws of phi in one word, by spread bits, marks and a shift: the answers in turn. Assumes nothing.
-use mathlib.Core.Bool.{Bool, true, false}
+use mathlib.Core.Bool.{Bool, true}
 use mathlib.Core.Path.{_≡_, refl, ap, sym, _∙_}
-use Prim.Native.Nat.{ℕ, zero, suc, _+_, _*_, _-_, _/_, _%_, _^_, _≤_, _<_}
+use Prim.Native.Nat.{ℕ, zero, suc, _+_, _*_, _-_, _%_, _^_, _≤_, _<_}
 use native.Mathlib.Nat.{pow-suc, mod-eq-of-lt, mul-le-mul-left}
 use native.Mathlib.Numerals.{add-one}
 use native.Mathlib.Omega.{arith}
-use lib.Dec.{eqb, ltb}
+use lib.Dec.{eqb}
 use lib.Pow.{pow-pos}
 use lib.Bits.{bitOr, or-shifted}
 use borrow.Author.Tests.{eqb-true, lt-ltb, le-ltb, eq-eqb, ne-eqb}
-use Rattle.probe.specs.Pick.{pick}
 use Rattle.probe.specs.Length.{bitsOf}
 use Rattle.probe.specs.LengthLaws.{bits-over, bits-below}
 use Rattle.probe.specs.Phi.{pairs, phi}

@@ -23,4 +23,6 @@ pub mod SpreadLaws
 pub mod Position
 pub mod PositionLaws
 pub mod BoundedLaws
+pub mod InverseLaws
+pub mod ReportLaws
 pub mod Vectors

@@ -1,14 +1,14 @@
 -- The order of phi: by length, then by the bits of j as a string, where a start of a string comes before it, then by i. Assumes nothing.
-use mathlib.Core.Path.{_≡_, refl, ap, sym, subst, _∙_}
+use mathlib.Core.Path.{_≡_, refl, ap, sym, _∙_}
 use Prim.Native.Nat.{ℕ, zero, suc, _+_, _*_, _-_, _/_, _%_, _^_, _≤_, _<_}
-use native.Mathlib.Nat.{pow-suc, pow-zero, mul-le-mul-right, mul-le-mul-left, lt-of-not-le}
+use native.Mathlib.Nat.{pow-suc, pow-zero, div-one, div-div-eq-div-mul, mul-le-mul-right, mul-le-mul-left, lt-of-not-le}
 use native.Mathlib.Decide.{decLe}
 use native.Mathlib.Omega.{arith}
 use lib.Pow.{pow-pos, pow-mono}
 use Rattle.probe.specs.Length.{lengthIn, bitsOf}
-use Rattle.probe.specs.Phi.{pairs, phi}
-use Rattle.probe.specs.LengthLaws.{Top, Has, has-top}
-use Rattle.probe.specs.PhiLaws.{twice, twice-sum, pairs-last, phi-node, top-half}
+use Rattle.probe.specs.Phi.{pairs, phi, at, coordsOf}
+use Rattle.probe.specs.LengthLaws.{Top, has-top, bits-top}
+use Rattle.probe.specs.PhiLaws.{twice, twice-sum, pairs-last, phi-node, phi-bits, phi-over, coords-sound, top-half}
 
 -- longer is larger
 pub longer : (x y : ℕ) → 0 < x → 0 < y → bitsOf x < bitsOf y → x < y
@@ -149,3 +149,102 @@ order-i i l j hi hj h =
 pub not-by-length : (bitsOf (phi 4 3) ≡ bitsOf (phi 1 4)) × (bitsOf 3 < bitsOf 4) × (phi 1 4 < phi 4 3)
 unfolding phi pairs bitsOf lengthIn
 not-by-length = (refl, omega arith, omega arith)
+
+-- ---- the same, by lengths: two positions of one length; k has at least as many bits as j, and its first are compared with j
+
+halves-div : (d k : ℕ) → halves d k ≡ k / 2 ^ d
+halves-div zero k = sym (div-one k)
+halves-div (suc d) k =
+    let e : 2 * 2 ^ d ≡ 2 ^ suc d = omega (arith, pow-suc 2 d) in
+    halves-div d (k / 2) ∙ div-div-eq-div-mul k 2 (2 ^ d) ∙ ap (λ (n : ℕ). k / n) e
+
+more-sum : (d t : ℕ) → more d t ≡ d + t
+more-sum zero t = omega arith
+more-sum (suc d) t = ap suc (more-sum d t) ∙ omega arith
+
+-- what the laws above ask
+record Aligned (i j l k d : ℕ) : Type 0 where
+  a : ℕ
+  t : ℕ
+  b : ℕ
+  ti : Top i a
+  tj : Top j t
+  tl : Top l b
+  tk : Top k (more d t)
+  even : 2 * d + b ≡ a
+
+module _ (i j l k : ℕ) (hi : 0 < i) (hj : 0 < j) (hl : 0 < l) (hk : 0 < k)
+    (length : bitsOf (phi i j) ≡ bitsOf (phi l k)) where
+  aligned : bitsOf j ≤ bitsOf k → Aligned i j l k (bitsOf k - bitsOf j)
+  aligned le =
+      let p = has-top i hi in
+      let q = has-top j hj in
+      let r = has-top l hl in
+      let s = has-top k hk in
+      let m : s .t ≡ more (bitsOf k - bitsOf j) (q .t) = omega (arith, s .bits, q .bits) ∙ sym (more-sum (bitsOf k - bitsOf j) (q .t)) in
+      record {
+        a = p .t;
+        t = q .t;
+        b = r .t;
+        ti = p .top;
+        tj = q .top;
+        tl = r .top;
+        tk = rw m at (s .top);
+        even = omega (arith, phi-bits i j hi hj, phi-bits l k hl hk, length, p .bits, q .bits, r .bits, s .bits);
+      }
+
+  pub by-first-bits : bitsOf j ≤ bitsOf k → j < k / 2 ^ (bitsOf k - bitsOf j) → phi i j < phi l k
+  by-first-bits le h =
+      let n = aligned le in
+      order-less i j (n .a) (n .t) l k (n .b) (bitsOf k - bitsOf j) (n .ti) (n .tj) (n .tl) (n .tk) (n .even) (rw (halves-div (bitsOf k - bitsOf j) k) h)
+
+  pub past-first-bits : bitsOf j ≤ bitsOf k → k / 2 ^ (bitsOf k - bitsOf j) < j → phi l k < phi i j
+  past-first-bits le h =
+      let n = aligned le in
+      order-more i j (n .a) (n .t) l k (n .b) (bitsOf k - bitsOf j) (n .ti) (n .tj) (n .tl) (n .tk) (n .even) (rw (halves-div (bitsOf k - bitsOf j) k) h)
+
+  -- a prefix before its continuations
+  pub prefix-first : bitsOf j < bitsOf k → j ≡ k / 2 ^ (bitsOf k - bitsOf j) → phi i j < phi l k
+  prefix-first lt e =
+      let n = aligned (omega arith) in
+      let s : bitsOf k - bitsOf j ≡ suc (bitsOf k - bitsOf j - 1) = omega arith in
+      order-start i j (n .a) (n .t) l k (n .b) (bitsOf k - bitsOf j - 1) (n .ti) (n .tj) (n .tl) (rw s at (n .tk)) (rw s at (n .even))
+      (rw s at (e ∙ sym (halves-div (bitsOf k - bitsOf j) k)))
+
+-- ---- no probe beyond the packing is ever asked for
+
+-- the pairs of 8,192, and those of what follows it
+pairs-last-probe : pairs 14 8192 ≡ 246065834
+unfolding pairs
+pairs-last-probe = refl
+
+-- 984,263,340 is phi(1, 8193) - 1
+pub probe-most : (p i j : ℕ) → p ≤ 984263340 → coordsOf p ≡ at i j → j ≤ 8192
+probe-most p i j h e = go (decLe j 8192)
+  where
+    far : (a t : ℕ) → 0 < i → 0 < j → phi i j ≡ p → Top i a → Top j t → bitsOf j ≡ suc t → 8192 < j → Dec (t ≤ 13) → j ≤ 8192
+    far a t hi hj is ti tj b past (no f) =
+        let g = lt-of-not-le f in
+        absurd (omega (arith, phi-over 31 i j hi hj (omega (arith, bits-top i a ti))))
+    far a t hi hj is ti tj b past (yes g) = near (decLe 13 t)
+      where
+        near : Dec (13 ≤ t) → j ≤ 8192
+        near (no f) =
+            let l = lt-of-not-le f in
+            let m : 2 ^ t ≤ 2 ^ 12 = pow-mono {i = t} {j = 12} (omega arith) in
+            absurd (omega (arith, tj .below))
+        near (yes l) =
+            let s : t ≡ 13 = omega arith in
+            let u : Top j 13 = rw s at tj in
+            let m = pairs-mono 14 8192 j past (omega (arith, u .below)) in
+            let n : phi i j ≡ pairs 14 j * 2 ^ suc (suc a) + i = rw s at (phi-node i j a t ti tj) in
+            let w : pairs 14 j * 4 ≤ pairs 14 j * 2 ^ suc (suc a) = mul-le-mul-left (pairs 14 j) (omega (arith, pow-pos a, pow-suc 2 a, pow-suc 2 (suc a))) in
+            absurd (omega (arith, m, n, w, pairs-last-probe))
+
+    go : Dec (j ≤ 8192) → j ≤ 8192
+    go (yes g) = g
+    go (no f) =
+        let s = coords-sound p i j e in
+        let a = has-top i (s .i-pos) in
+        let b = has-top j (s .j-pos) in
+        far (a .t) (b .t) (s .i-pos) (s .j-pos) (s .is) (a .top) (b .top) (b .bits) (lt-of-not-le f) (decLe (b .t) 13)

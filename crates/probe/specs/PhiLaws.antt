@@ -1,19 +1,16 @@
 -- Laws of phi and of its inverse. Assumes nothing.
-use mathlib.Core.Bool.{Bool, true, false}
-use mathlib.Core.Path.{_≡_, refl, ap, ap₂, sym, subst, _∙_}
+use mathlib.Core.Path.{_≡_, ap, ap₂, sym, subst, _∙_}
 use Prim.Native.Nat.{ℕ, zero, suc, _+_, _*_, _-_, _/_, _%_, _^_, _≤_, _<_}
 use native.Mathlib.Nat.{pow-suc, pow-zero, add-mul, mul-le-mul, mul-le-mul-left, mul-le-mul-right, lt-of-not-le, lt-of-lt-of-le, le-trans, le-of-eq}
 use native.Mathlib.Omega.{arith}
 use native.Mathlib.Numerals.{add-one}
 use native.Mathlib.Decide.{decLe}
-use lib.Dec.{ltb}
-use lib.Pow.{pow-pos, pow-mono, pow-add}
+use lib.Pow.{pow-pos, pow-add}
 use lib.Arith.{digits-div, digits-mod}
 use borrow.Author.Tests.{lt-ltb, le-ltb}
-use Rattle.probe.specs.Pick.{pick}
 use Rattle.probe.specs.Length.{bitsOf}
-use Rattle.probe.specs.Phi.{pairs, phi, Coords, gap, at, parse, start, coordsOf}
-use Rattle.probe.specs.LengthLaws.{Top, Has, has-top, bits-top, bits-below, bits-fits}
+use Rattle.probe.specs.Phi.{pairs, phi, gap, at, parse, start, coordsOf}
+use Rattle.probe.specs.LengthLaws.{Top, has-top, bits-top, bits-below, bits-fits}
 
 -- ---- a parse by quarters of what the bits can hold
 

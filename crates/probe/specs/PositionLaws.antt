@@ -1,20 +1,17 @@
 -- Laws of what phi and its inverse answer, as their code goes. Assumes nothing.
-use mathlib.Core.Bool.{Bool, true, false}
-use mathlib.Core.Path.{_≡_, refl, ap, ap₂, sym, subst, _∙_}
+use mathlib.Core.Path.{_≡_, refl, ap, sym, _∙_}
 use Prim.Native.Nat.{ℕ, zero, suc, _+_, _*_, _-_, _/_, _%_, _^_, _≤_, _<_}
-use native.Mathlib.Nat.{pow-suc, pow-zero, mod-eq-of-lt, mod-lt, div-add-mod', lt-of-not-le, lt-of-lt-of-le, mul-le-mul-left, mul-le-mul-right}
+use native.Mathlib.Nat.{pow-suc, mod-lt, div-add-mod', lt-of-not-le, mul-le-mul-right}
 use native.Mathlib.Decide.{decLe}
 use native.Mathlib.Numerals.{add-one}
 use native.Mathlib.Omega.{arith}
-use lib.Dec.{eqb, ltb}
-use lib.Pow.{pow-pos, pow-mono, pow-lt, mod-pow-add}
-use borrow.Author.Tests.{eqb-true, lt-ltb, le-ltb, eq-eqb, ne-eqb}
-use Rattle.probe.specs.Pick.{pick}
-use Rattle.probe.specs.Length.{bitsOf, lengthIn}
-use Rattle.probe.specs.LengthLaws.{Top, Has, has-top, bits-top, bits-zero, bits-none, bits-pos, bits-half, bits-over, bits-below}
-use Rattle.probe.specs.Phi.{pairs, phi, Coords, gap, at, parse, start, coordsOf}
-use Rattle.probe.specs.PhiLaws.{pairs-last, parse-low, parse-last, parse-bit, phi-over, phi-fits, phi-bits}
-use Rattle.probe.specs.Wide.{wideOf, toWide}
+use lib.Pow.{pow-pos, pow-mono, mod-pow-add}
+use borrow.Author.Tests.{lt-ltb, le-ltb, eq-eqb, ne-eqb}
+use Rattle.probe.specs.Length.{bitsOf}
+use Rattle.probe.specs.LengthLaws.{has-top, bits-zero, bits-none, bits-pos, bits-half}
+use Rattle.probe.specs.Phi.{pairs, phi, gap, at, parse, start, coordsOf}
+use Rattle.probe.specs.PhiLaws.{pairs-last, parse-low, parse-last, parse-bit, phi-over, phi-fits}
+use Rattle.probe.specs.Wide.{wideOf}
 use Rattle.probe.specs.WideLaws.{wide-is}
 use Rattle.probe.specs.Position.{positionOf, told, coordinatesOf}
 use Rattle.probe.specs.declared.wide.Wide.{Wide}

@@ -1,13 +1,13 @@
 -- Positions as a tree. A node is a j and q positions from b on: those whose first pairs are j's. Its first quarter are gaps, the second
 -- holds i from q / 4 on, the third and the fourth are the nodes of 2 j and 2 j + 1. Assumes nothing.
-use mathlib.Core.Path.{_≡_, refl, ap, sym, subst, _∙_}
+use mathlib.Core.Path.{_≡_, refl, ap, _∙_}
 use Prim.Native.Nat.{ℕ, zero, suc, _+_, _*_, _-_, _/_, _%_, _^_, _≤_, _<_}
 use native.Mathlib.Nat.{pow-suc, pow-zero, mul-le-mul-right, mul-le-mul-left, lt-of-not-le}
 use native.Mathlib.Omega.{arith}
 use native.Mathlib.Decide.{decLe}
 use lib.Pow.{pow-pos, pow-mono}
 use borrow.Author.Tests.{lt-ltb}
-use Rattle.probe.specs.Phi.{pairs, Coords, gap, at, parse, start, coordsOf}
+use Rattle.probe.specs.Phi.{pairs, gap, at, parse, start, coordsOf}
 use Rattle.probe.specs.LengthLaws.{Top, bits-top}
 use Rattle.probe.specs.PhiLaws.{coords-node, parse-low, parse-last, parse-bit, pairs-last, top-half, top-zero, top-more}
 

@@ -1,5 +1,5 @@
 -- Laws of numbers of two words: their length, their bits, and one more bit. Assumes nothing.
-use mathlib.Core.Path.{_≡_, refl, sym, ap, ap₂, _∙_}
+use mathlib.Core.Path.{_≡_, sym, ap, _∙_}
 use Prim.Native.Nat.{ℕ, suc, _+_, _-_, _*_, _/_, _%_, _^_, _≤_, _<_}
 use native.Mathlib.Nat.{zero-add, add-comm, mul-assoc, pow-suc, add-mul-div-right, mul-add-mod-self-right, mod-eq-of-lt, mul-le-mul-right}
 use native.Mathlib.Decide.{ℕ-discrete}

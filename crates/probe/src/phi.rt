@@ -73,6 +73,9 @@ fn with_pairs(x: Wide, place: u64, j: u64) -> Wide
     out
 }
 
+// "j to 65,535"
+const BOUNDED_J: u64 = 65535;
+
 // phi in one word, for the coordinates that a table of 01's sizes has: j's bits are spread by shifts, not one by one.
 pub fn phi_bounded(i: u32, j: u64) -> Bounded
     ensures { λ r. ⌜ r ≡ boundedOf i j ⌝ }
@@ -83,7 +86,7 @@ pub fn phi_bounded(i: u32, j: u64) -> Bounded
     if j == 0 {
         return Bounded::Coord(Coordinate::J);
     }
-    if 65535 < j {
+    if BOUNDED_J < j {
         return Bounded::Overflow;
     }
     let low = i as u64;

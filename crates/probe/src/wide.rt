@@ -12,7 +12,7 @@ pub struct Wide {
 }
 
 // The length in bits.
-pub fn bits(x: Wide) -> u64
+pub(crate) fn bits(x: Wide) -> u64
     ensures { λ r. ⌜ r ≡ bitsOf (wideOf x) ⌝ }
 {
     if x.hi == 0 {
@@ -22,7 +22,7 @@ pub fn bits(x: Wide) -> u64
 }
 
 // The bit at place k.
-pub fn bit_at(x: Wide, k: u64) -> u64
+pub(crate) fn bit_at(x: Wide, k: u64) -> u64
     requires { ⌜ k < 128 ⌝ }
     ensures { λ r. ⌜ r ≡ wideOf x / 2 ^ k % 2 ⌝ }
 {
@@ -33,7 +33,7 @@ pub fn bit_at(x: Wide, k: u64) -> u64
 }
 
 // The k low bits.
-pub fn low_bits(x: Wide, k: u64) -> Wide
+pub(crate) fn low_bits(x: Wide, k: u64) -> Wide
     requires { ⌜ k < 128 ⌝ }
     ensures { λ r. ⌜ wideOf r ≡ wideOf x % 2 ^ k ⌝ }
 {
@@ -50,7 +50,7 @@ pub fn low_bits(x: Wide, k: u64) -> Wide
 }
 
 // A number below 2^k with one more bit, at place k.
-pub fn with_bit(x: Wide, bit: u64, k: u64) -> Wide
+pub(crate) fn with_bit(x: Wide, bit: u64, k: u64) -> Wide
     requires { ⌜ (bit < 2) × (k < 128) × (wideOf x < 2 ^ k) ⌝ }
     ensures { λ r. ⌜ wideOf r ≡ bit * 2 ^ k + wideOf x ⌝ }
 {

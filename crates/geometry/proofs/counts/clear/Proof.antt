@@ -4,7 +4,7 @@ use mathlib.Core.List.{List, _++_}
 use Prim.Native.Nat.{ℕ, _-_, _≤_}
 use native.Mathlib.Omega.{arith}
 use lib.ListN.{length, drop, set, replicate, length-set}
-use borrow.Author.Fill.{fill-none, fill-more}
+use borrow.Author.Fill.{fill-more}
 use Rattle.geometry.specs.ZeroLaws.{cleared}
 use Rattle.geometry.proofs.counts.clear.Statement.{statement}
 use Rattle.geometry.proofs.counts.clear.Tie as tie

@@ -2,7 +2,6 @@
 use Prim.Native.Nat.{_-_}
 use native.Mathlib.Omega.{arith}
 use lib.ListN.{length}
-use mathlib.Core.Path.{subst, sym}
 use Rattle.geometry.specs.ZeroLaws.{Others, others-start, others-more, others-none}
 use Rattle.geometry.proofs.counts_test.zero_from.Statement.{statement}
 use Rattle.geometry.proofs.counts_test.zero_from.Tie as tie

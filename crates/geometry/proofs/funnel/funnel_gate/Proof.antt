@@ -1,7 +1,5 @@
 -- `geometry::funnel::funnel_gate` meets its contract. Assumes nothing.
 use borrow.Author.Needs.{needs}
-use mathlib.Core.Path.{sym, subst}
-use Rattle.geometry.specs.FunnelGate.{SpecialOr}
 use Rattle.geometry.specs.FunnelGateLaws.{special-or-passed, special-or-refused}
 use Rattle.geometry.proofs.funnel.funnel_gate.Statement.{statement}
 use Rattle.geometry.proofs.funnel.funnel_gate.Tie as tie

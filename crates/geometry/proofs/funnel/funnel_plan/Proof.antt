@@ -1,7 +1,7 @@
 -- `geometry::funnel::funnel_plan` meets its contract. Assumes nothing.
 use borrow.Author.Needs.{needs}
 use mathlib.Core.Path.{refl, sym}
-use Rattle.geometry.specs.FunnelGate.{Planned, SpecialOr}
+use Rattle.geometry.specs.FunnelGate.{Planned}
 use Rattle.geometry.specs.FunnelGateLaws.{special-or-length, special-or-refused}
 use Rattle.geometry.proofs.funnel.funnel_plan.Statement.{statement}
 use Rattle.geometry.proofs.funnel.funnel_plan.Tie as tie

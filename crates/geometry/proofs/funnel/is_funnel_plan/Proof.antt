@@ -1,6 +1,6 @@
 -- `geometry::funnel::is_funnel_plan` meets its contract: each test denies the plan or is a part of it. Assumes nothing.
 use borrow.Author.Needs.{needs}
-use mathlib.Core.Bool.{true, false}
+use mathlib.Core.Bool.{false}
 use native.Mathlib.Omega.{arith}
 use Rattle.geometry.specs.SaysLaws.{says-true, says-false}
 use Rattle.geometry.specs.FunnelLaws.{plan-facts}

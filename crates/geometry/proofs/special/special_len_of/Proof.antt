@@ -1,6 +1,6 @@
 -- `geometry::special::special_len_of` meets its contract. Assumes nothing.
 use borrow.Author.Needs.{needs}
-use mathlib.Core.Path.{ap, sym}
+use mathlib.Core.Path.{ap}
 use Prim.Native.Nat.{ℕ, _*_}
 use native.Mathlib.Omega.{arith}
 use Rattle.geometry.specs.LoglogLaws.{loglog-facts}
