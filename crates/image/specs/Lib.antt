@@ -4,6 +4,7 @@ pub mod Dirty
 pub mod Writing
 pub mod Fill
 pub mod Loading
+pub mod Calls
 pub mod Cursor
 pub mod Pieces
 pub mod TestLaws
@@ -19,3 +20,4 @@ pub mod ImageLaws
 pub mod WritingLaws
 pub mod FillLaws
 pub mod LoadingLaws
+pub mod CallLaws

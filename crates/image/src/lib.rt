@@ -9,11 +9,13 @@
 //     dirty.rt     DIRTY: the smallest slot that no table has
 //     writer.rt    the writer
 //     loader.rt    the loader
+//     calls.rt     the public calls: the tests 1 to 7, then writer or loader
 //
 // A reader carries a stage from field to field: the lowest rank that may come next, the rank of a tag being its place in
 // the order of fields. So another field is another rank. The loader goes over an image twice. The first pass tests all
 // and writes nothing; the second fills the buffers and tests nothing.
 
+pub mod calls;
 pub mod dirty;
 pub mod field;
 pub mod loader;
