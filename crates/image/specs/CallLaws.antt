@@ -13,7 +13,7 @@ use Rattle.geometry.specs.Config.{refuseIf}
 use Rattle.geometry.specs.FunnelGate.{funnelGate}
 use Rattle.geometry.specs.declared.config.Gated.{Gated}
 use Rattle.geometry.specs.declared.config.Gated.the-variants.{Passed, Refused}
-use Rattle.funnel.specs.CallLaws.{then-passed, gate-valid}
+use Rattle.funnel.specs.CallLaws.{gate-valid}
 use Rattle.funnel.specs.Calls.{gateThen, limitsThen, tableGate}
 use Rattle.funnel.specs.Valid.{Valid}
 use Rattle.funnel.specs.declared.table.FunnelTable.{FunnelTable}
@@ -56,6 +56,11 @@ module _ (table : FunnelTable) (counts : List ℕ) (words flags label : ℕ) whe
   pub gate-long-passed : labelMost < label → funnelGate (table .n) (table .e) ≡ Passed → Refused gate.Limits ≡ writeGate table counts words flags label
   gate-long-passed l h = sym (gate-long l ∙ rw h)
 
+-- so it never passes
+never-passed : (g : Gated) → gateThen g (Refused gate.Limits) ≡ Passed → ⊥
+never-passed Passed h = let o : _≡_ {A = ℕ} 0 1 = cc in omega arith
+never-passed (Refused x) h = let o : _≡_ {A = ℕ} 0 1 = cc in omega arith
+
 -- a table and a label that pass
 pub record Writable (table : FunnelTable) (counts words flags label : List ℕ) : Type 0 where
   pub valid : Valid table counts words flags
@@ -65,8 +70,7 @@ pub gate-writable : (table : FunnelTable) (counts words flags label : List ℕ) 
 gate-writable table counts words flags label h =
     cases (ltb labelMost (length label))
     (λ t. let l : labelMost < length label = ltb-true _ _ t in
-    let z : Refused gate.Limits ≡ Passed = then-passed _ _ (sym (gate-long table counts (length words) (length flags) (length label) l) ∙ h) .1 in
-    let o : _≡_ {A = ℕ} 0 1 = cc in absurd (omega arith))
+    absurd (never-passed (funnelGate (table .n) (table .e)) (sym (gate-long table counts (length words) (length flags) (length label) l) ∙ h)))
     (λ f. let l : length label ≤ labelMost = ltb-false _ _ f in
     record { valid = gate-valid table counts words flags (gate-short table counts (length words) (length flags) (length label) l ∙ h); short = l })
 

@@ -17,9 +17,15 @@ use refusal::Gate;
 // place of the label's body, two zeros if there is none.
 pub enum Loaded {
     Gate(Gate),
-    Image { place: u64 },
+    Image {
+        place: u64,
+    },
     Foreign,
-    Done { table: FunnelTable, label_at: u64, label_len: u64 },
+    Done {
+        table: FunnelTable,
+        label_at: u64,
+        label_len: u64,
+    },
 }
 
 // The image of a table, into `out`; bytes past it stay as they were.
@@ -33,8 +39,13 @@ pub fn write_image(
 ) -> Written
     ensures { λ r. ⌜ writes r (now (out .exit)) ≡ writeImageOf table (now (counts .entry)) (now (words .entry)) (now (flags .entry)) (now (label .entry)) (now (out .entry)) ⌝ }
 {
-    let size = label.len();
-    match write_gate(table, counts, words.len() as u64, flags.len() as u64, size as u64) {
+    match write_gate(
+        table,
+        counts,
+        words.len() as u64,
+        flags.len() as u64,
+        label.len(),
+    ) {
         Gated::Refused(g) => Written::Gate(g),
         Gated::Passed => write(table, words, flags, label, out),
     }
@@ -62,17 +73,17 @@ fn write_gate(
     counts: &[u64; 118],
     words: u64,
     flags: u64,
-    label: u64,
+    label: usize,
 ) -> Gated
     ensures { λ r. ⌜ r ≡ writeGate table (now (counts .entry)) words flags label ⌝ }
 {
-    if LABEL_MOST as u64 < label {
-        return match funnel_gate(table.n, table.e) {
-            Gated::Refused(g) => Gated::Refused(g),
-            Gated::Passed => Gated::Refused(Gate::Limits),
-        };
+    if label <= LABEL_MOST {
+        return table_gate(table, counts, words, flags);
     }
-    table_gate(table, counts, words, flags)
+    match funnel_gate(table.n, table.e) {
+        Gated::Refused(g) => Gated::Refused(g),
+        Gated::Passed => Gated::Refused(Gate::Limits),
+    }
 }
 
 // What loading answers, with the count of the image in the table.

@@ -256,8 +256,11 @@ scan-smallest-from words flags (suc k) s c d h = go (dirty (getD words s 0) (get
     go false e h ih =
         let r = ih _ h in
         let f = r .from in
-        record { from = omega arith; here = r .here;
-        below = λ t a b. cases (eqb t s) (λ y. let q : t ≡ s = eqb-true _ _ y in rw q e) (λ y. let n : t ≡ s → ⊥ = eqb-false _ _ y in let m : suc s ≤ t = omega (arith, n) in r .below t m b) }
+        record {
+          from = omega arith;
+          here = r .here;
+          below = λ t a b. cases (eqb t s) (λ y. let q : t ≡ s = eqb-true _ _ y in rw q e) (λ y. let n : t ≡ s → ⊥ = eqb-false _ _ y in let m : suc s ≤ t = omega (arith, n) in r .below t m b);
+        }
 
 -- "DIRTY: .. smallest such slot"
 pub scan-smallest : (words flags : List ℕ) (d : ℕ) → scanOf words flags ≡ Dirty d → SmallestDirty words flags 0 d
