@@ -7,7 +7,6 @@ use words::product::multiply;
 
 // FNV-1a, 64 bits.
 const BASIS: u64 = 0xcbf29ce484222325;
-
 const PRIME: u64 = 0x100000001b3;
 
 // The increment of splitmix64.
