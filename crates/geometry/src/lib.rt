@@ -10,4 +10,8 @@
 //     funnel.rt    the plan of a funnel: its gate (1 to 5), its numbers, its counts; whether given numbers are that plan
 
 pub mod config;
+mod counts;
+mod counts_test;
 pub mod elastic;
+pub mod funnel;
+mod special;

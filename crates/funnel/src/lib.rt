@@ -1,0 +1,5 @@
+// Funnel tables.
+
+pub mod scan;
+pub mod search;
+pub mod table;

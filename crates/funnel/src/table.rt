@@ -1,0 +1,72 @@
+// The state of a funnel table, and what its calls answer.
+use geometry::funnel::FunnelPlan;
+use refusal::{Gate, RangeRefusal};
+use words::place::Place;
+
+// A table of n slots with reserve 2^-e. Its words, its flags and the counts of its levels are lent beside it.
+pub struct FunnelTable {
+    pub n: u64,
+    pub e: u32,
+    pub seed: u64,
+    pub word_cap: u64,
+    pub count: u64,
+    pub plan: FunnelPlan,
+}
+
+// What a search along a path, or along a part of one, comes to.
+pub enum Search {
+    Hit { probes: u64, place: Place },
+    Vacant { probes: u64, place: Place },
+    Full { probes: u64 },
+    Range(RangeRefusal),
+}
+
+// What an insertion into a valid table is answered.
+pub enum Insertion {
+    Inserted { probes: u64, place: Place },
+    Range(RangeRefusal),
+    Duplicate { probes: u64, place: Place },
+    Exhausted { probes: u64 },
+    Full { probes: u64 },
+}
+
+// The answer of an insertion and the table after it.
+pub struct Step {
+    pub answer: Insertion,
+    pub table: FunnelTable,
+}
+
+// What placing many identities is answered: that all have their slot, or the first refusal with its index.
+pub enum Placement {
+    All,
+    Range { index: u64, refusal: RangeRefusal },
+    Exhausted { index: u64, probes: u64 },
+    Full { index: u64, probes: u64 },
+}
+
+// The answer of a placement and the table after it.
+pub struct PlacedAll {
+    pub answer: Placement,
+    pub table: FunnelTable,
+}
+
+// What the public calls answer: a refusal of the gate, or what the call on a valid table does.
+pub enum OpenAnswer {
+    Gate(Gate),
+    Table(FunnelTable),
+}
+
+pub enum SearchAnswer {
+    Gate(Gate),
+    Found(Search),
+}
+
+pub enum InsertAnswer {
+    Gate(Gate),
+    Done(Step),
+}
+
+pub enum PlaceAnswer {
+    Gate(Gate),
+    Done(PlacedAll),
+}
