@@ -1,2 +1,4 @@
 pub mod Check
+pub mod FirstLaws
 pub mod Greedy
+pub mod ReadyLaws
