@@ -1,0 +1,4 @@
+pub mod FillLaws
+pub mod Made
+pub mod MadeLaws
+pub mod WalkLaws
