@@ -1,4 +1,5 @@
 pub mod FillLaws
 pub mod Made
 pub mod MadeLaws
+pub mod TakeLaws
 pub mod WalkLaws
