@@ -1,5 +1,9 @@
+pub mod Every
+pub mod EveryLaws
+pub mod FindLaws
 pub mod Insert
 pub mod Path
+pub mod PathLaws
 pub mod PlanLaws
 pub mod Search
 pub mod SearchLaws

@@ -12,6 +12,12 @@ use Rattle.geometry.specs.LevelLaws.{start-next}
 use Rattle.geometry.specs.declared.funnel.FunnelPlan.{FunnelPlan}
 use Rattle.funnel.specs.Path.{levelStart, primaryStart, fallbackStart}
 
+-- a part of w slots lies within a row of them
+pub part-room : (index count w : ℕ) → index < count → index * w + w ≤ count * w
+part-room index count w h =
+    let m : suc index * w ≤ count * w = mul-le-mul-right w (omega arith) in
+    omega (arith, suc-mul index w)
+
 module _ {n e : ℕ} {plan : FunnelPlan} {counts : List ℕ} (is : IsPlan n e plan counts) where
   -- the special part starts where the levels end
   pub primary-start : primaryStart plan counts ≡ n - plan .«special_len»
@@ -32,17 +38,17 @@ module _ {n e : ℕ} {plan : FunnelPlan} {counts : List ℕ} (is : IsPlan n e pl
   pub bucket-room : (level bucket : ℕ) → level < plan .alpha → bucket < getD counts level 0
       → levelStart plan counts level + bucket * plan .beta + plan .beta ≤ n - plan .«special_len»
   bucket-room level bucket h l =
-      let m : suc bucket * plan .beta ≤ getD counts level 0 * plan .beta = mul-le-mul-right (plan .beta) (omega arith) in
+      let m = part-room bucket (getD counts level 0) (plan .beta) l in
       let r = level-room level h in
-      omega (arith, suc-mul bucket (plan .beta))
+      omega arith
 
   -- a fallback bucket lies within the table
   pub fallback-room : (bucket : ℕ) → bucket < plan .«fallback_bucket_count»
       → fallbackStart plan counts + bucket * plan .«fallback_bucket_width» + plan .«fallback_bucket_width» ≤ n
   fallback-room bucket l =
       let f = plan-facts is in
-      let m : suc bucket * plan .«fallback_bucket_width» ≤ plan .«fallback_bucket_count» * plan .«fallback_bucket_width» = mul-le-mul-right (plan .«fallback_bucket_width») (omega arith) in
-      omega (arith, suc-mul bucket (plan .«fallback_bucket_width»), primary-start)
+      let m = part-room bucket (plan .«fallback_bucket_count») (plan .«fallback_bucket_width») l in
+      omega (arith, primary-start)
 
   -- the primary slots lie before the fallback, within the table
   pub primary-room : fallbackStart plan counts ≤ n

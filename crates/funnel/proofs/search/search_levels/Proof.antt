@@ -5,11 +5,10 @@ use mathlib.Core.Path.{_≡_, sym, _∙_, ap, refl}
 use native.Mathlib.Omega.{arith}
 use borrow.Author.Needs.{needs}
 use Rattle.geometry.specs.FunnelLaws.{plan-facts}
-use Rattle.probe.specs.RangeLaws.{draw-index}
 use Rattle.funnel.specs.Path.{levelStart}
 use Rattle.funnel.specs.SearchLaws.{resume}
 use Rattle.funnel.specs.PlanLaws.{level-none, level-room, bucket-room}
-use Rattle.funnel.specs.StageLaws.{drew, LevelsLeft, levels-none, levels-refused, levels-found, levels-end, bucket-full}
+use Rattle.funnel.specs.StageLaws.{drew, drew-below, LevelsLeft, levels-none, levels-refused, levels-found, levels-end, bucket-full}
 use Rattle.funnel.proofs.search.search_levels.Statement.{statement}
 use Rattle.funnel.proofs.search.search_levels.Tie as tie
 use Rattle.funnel.proofs.search.search_levels.Reads as reads
@@ -52,23 +51,23 @@ enum-known-index : tie.Need-enum-known-index Inv-loop μ-loop
 enum-known-index c = search needs
 
 -- src/search.rt:40:80
-mul-scan : tie.Need-mul-scan Inv-loop μ-loop
-mul-scan c = let d = draw-index _ _ _ _ _ _ _ (level-room (c .before .before .before .before .before .before .before .before .before .pre .0 .planned) _ (c .before .before .before .before .before .loop-test .taken) .some) (sym (c .before .before .before .sample .ensures) ∙ c .before .index .given .1) in
-    let b = bucket-room (c .before .before .before .before .before .before .before .before .before .pre .0 .planned) _ _ (c .before .before .before .before .before .loop-test .taken) (d .below) in
+mul-from : tie.Need-mul-from Inv-loop μ-loop
+mul-from c = let d = drew-below _ _ _ _ _ (level-room (c .before .before .before .before .before .before .before .before .before .pre .0 .planned) _ (c .before .before .before .before .before .loop-test .taken) .some) (c .before .before .before .sample .ensures) (c .before .index .given .1) in
+    let b = bucket-room (c .before .before .before .before .before .before .before .before .before .pre .0 .planned) _ _ (c .before .before .before .before .before .loop-test .taken) d in
     let f = plan-facts (c .before .before .before .before .before .before .before .before .before .pre .0 .planned) in
     omega arith
 
 -- src/search.rt:40:72
-add-scan : tie.Need-add-scan Inv-loop μ-loop
-add-scan c = let d = draw-index _ _ _ _ _ _ _ (level-room (c .before .before .before .before .before .before .before .before .before .pre .0 .planned) _ (c .before .before .before .before .before .loop-test .taken) .some) (sym (c .before .before .before .sample .ensures) ∙ c .before .index .given .1) in
-    let b = bucket-room (c .before .before .before .before .before .before .before .before .before .pre .0 .planned) _ _ (c .before .before .before .before .before .loop-test .taken) (d .below) in
+add-from : tie.Need-add-from Inv-loop μ-loop
+add-from c = let d = drew-below _ _ _ _ _ (level-room (c .before .before .before .before .before .before .before .before .before .pre .0 .planned) _ (c .before .before .before .before .before .loop-test .taken) .some) (c .before .before .before .sample .ensures) (c .before .index .given .1) in
+    let b = bucket-room (c .before .before .before .before .before .before .before .before .before .pre .0 .planned) _ _ (c .before .before .before .before .before .loop-test .taken) d in
     let f = plan-facts (c .before .before .before .before .before .before .before .before .before .pre .0 .planned) in
     omega arith
 
 -- src/search.rt:40:21
 scan-requires : tie.Need-scan-requires Inv-loop μ-loop
-scan-requires c κs = let d = draw-index _ _ _ _ _ _ _ (level-room (c .before .before .before .before .before .before .before .before .before .pre .0 .planned) _ (c .before .before .before .before .before .loop-test .taken) .some) (sym (c .before .before .before .sample .ensures) ∙ c .before .index .given .1) in
-    let b = bucket-room (c .before .before .before .before .before .before .before .before .before .pre .0 .planned) _ _ (c .before .before .before .before .before .loop-test .taken) (d .below) in
+scan-requires c κs = let d = drew-below _ _ _ _ _ (level-room (c .before .before .before .before .before .before .before .before .before .pre .0 .planned) _ (c .before .before .before .before .before .loop-test .taken) .some) (c .before .before .before .sample .ensures) (c .before .index .given .1) in
+    let b = bucket-room (c .before .before .before .before .before .before .before .before .before .pre .0 .planned) _ _ (c .before .before .before .before .before .loop-test .taken) d in
     let f = plan-facts (c .before .before .before .before .before .before .before .before .before .pre .0 .planned) in
     let v = c .before .before .before .before .before .before .before .before .before .pre .0 in
     omega arith
@@ -126,8 +125,8 @@ search-levels-spec =
     enum-known-refusal
     returns
     enum-known-index
-    mul-scan
-    add-scan
+    mul-from
+    add-from
     scan-requires
     enum-known-found
     returns-2
