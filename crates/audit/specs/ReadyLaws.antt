@@ -136,13 +136,15 @@ module _ (table : FunnelTable) (counts words flags marks : List ℕ) (placed s :
       go (search.Full k) = rw (le-leb _ _ h)
       go (search.Range refusal) = refl
 
-  pub ready-vacant : getD flags s 0 ≡ 0 → ready table counts words flags marks placed s ≡ false
+  pub ready-placed : unplaced flags marks s ≡ false → ready table counts words flags marks placed s ≡ false
   unfolding ready
-  ready-vacant h = rw (unplaced-vacant flags marks s h)
+  ready-placed h = rw h
+
+  pub ready-vacant : getD flags s 0 ≡ 0 → ready table counts words flags marks placed s ≡ false
+  ready-vacant h = ready-placed (unplaced-vacant flags marks s h)
 
   pub ready-marked : (getD marks s 0 ≡ 0 → ⊥) → ready table counts words flags marks placed s ≡ false
-  unfolding ready
-  ready-marked h = rw (unplaced-marked flags marks s h)
+  ready-marked h = ready-placed (unplaced-marked flags marks s h)
 
   pub ready-exhausted : table .plan .maximum ≤ placed → ready table counts words flags marks placed s ≡ false
   unfolding ready
