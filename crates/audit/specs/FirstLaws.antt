@@ -89,3 +89,7 @@ module _ {test : ℕ → Bool} {from n i : ℕ} (p : Passed test from n i) where
   pub passed-end : n ≤ i → Nothing ≡ firstFrom test from (n - from)
   unfolding firstFrom
   passed-end h = sym (p .left ∙ (let e : n - i ≡ 0 = omega arith in rw e))
+
+-- from slot 0 on
+pub from-zero : (test : ℕ → Bool) (n : ℕ) → firstFrom test 0 (n - 0) ≡ firstFrom test 0 n
+from-zero test n = let e : n - 0 ≡ n = omega arith in rw e

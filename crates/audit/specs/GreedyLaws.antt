@@ -44,18 +44,24 @@ first-skip test start n l quiet = go (firstFrom test start (n - start)) refl
         by t true q b before = quiet t (ltb-true _ _ q)
         by t false q b before = let c : start ≤ t = ltb-false _ _ q in before t (omega arith) b
 
--- from marks₀ and order₀ the turns came to marks and order, with no ready slot among the first i
-pub record Going (table : FunnelTable) (counts words flags marks₀ order₀ marks order : List ℕ) (placed i : ℕ) : Type 0 where
-  pub left : greedyOf table counts words flags (table .n) (table .n) marks₀ order₀ 0 ≡ greedyOf table counts words flags (table .n) (table .n - placed) marks order placed
+-- on the way to the whole, with no ready slot among the first i
+pub record Going (whole : Taken) (table : FunnelTable) (counts words flags marks order : List ℕ) (placed i : ℕ) : Type 0 where
+  pub left : whole ≡ greedyOf table counts words flags (table .n) (table .n - placed) marks order placed
   pub quiet : (t : ℕ) → t < i → ready table counts words flags marks placed t ≡ false
   pub marks-n : length marks ≡ table .n
   pub order-n : length order ≡ table .n
 
-pub going-none : (table : FunnelTable) (counts words flags marks order : List ℕ) → length marks ≡ table .n → length order ≡ table .n → Going table counts words flags marks order marks order 0 0
+pub going-none : (table : FunnelTable) (counts words flags marks order : List ℕ) → length marks ≡ table .n → length order ≡ table .n
+    → Going (greedyOf table counts words flags (table .n) (table .n) marks order 0) table counts words flags marks order 0 0
 going-none table counts words flags marks order m o =
     record { left = (let e : table .n - 0 ≡ table .n = omega arith in rw e); quiet = λ t h. absurd (omega arith); marks-n = m; order-n = o }
 
-module _ {table : FunnelTable} {counts words flags marks₀ order₀ marks order : List ℕ} {placed i : ℕ} (g : Going table counts words flags marks₀ order₀ marks order placed i) where
+-- the turns that are left, on their own
+pub going-on : {whole : Taken} {table : FunnelTable} {counts words flags marks order : List ℕ} {placed i : ℕ} → Going whole table counts words flags marks order placed i
+    → Going (greedyOf table counts words flags (table .n) (table .n - placed) marks order placed) table counts words flags marks order placed i
+going-on g = record { left = refl; quiet = g .quiet; marks-n = g .marks-n; order-n = g .order-n }
+
+module _ {whole : Taken} {table : FunnelTable} {counts words flags marks order : List ℕ} {placed i : ℕ} (g : Going whole table counts words flags marks order placed i) where
   greedy-step : placed < table .n → greedyOf table counts words flags (table .n) (table .n - placed) marks order placed
       ≡ byFirst (firstFrom (ready table counts words flags marks placed) 0 (table .n)) (taken marks order placed)
       (λ s. greedyOf table counts words flags (table .n) (table .n - (placed + 1)) (set marks s 1) (set order placed s) (placed + 1))
@@ -64,7 +70,7 @@ module _ {table : FunnelTable} {counts words flags marks₀ order₀ marks order
 
   -- a slot taken that is not among the first i, all of these ordinary
   going-take : (s j : ℕ) → IsPlan (table .n) (table .e) (table .plan) counts → placed < table .n → j ≤ s → j ≤ i → j ≤ primaryStart (table .plan) counts
-      → firstFrom (ready table counts words flags marks placed) 0 (table .n) ≡ At s → Going table counts words flags marks₀ order₀ (set marks s 1) (set order placed s) (placed + 1) j
+      → firstFrom (ready table counts words flags marks placed) 0 (table .n) ≡ At s → Going whole table counts words flags (set marks s 1) (set order placed s) (placed + 1) j
   going-take s j is room l m p e =
       record {
         left = g .left ∙ greedy-step room ∙ rw e;
@@ -75,7 +81,7 @@ module _ {table : FunnelTable} {counts words flags marks₀ order₀ marks order
 
   -- ---- the rising pass over the ordinary slots
 
-  pub going-skip : ready table counts words flags marks placed i ≡ false → Going table counts words flags marks₀ order₀ marks order placed (i + 1)
+  pub going-skip : ready table counts words flags marks placed i ≡ false → Going whole table counts words flags marks order placed (i + 1)
   going-skip e =
       record {
         left = g .left;
@@ -85,7 +91,7 @@ module _ {table : FunnelTable} {counts words flags marks₀ order₀ marks order
       }
 
   pub going-rise : IsPlan (table .n) (table .e) (table .plan) counts → placed < table .n → i < table .n → i < primaryStart (table .plan) counts → ready table counts words flags marks placed i ≡ true
-      → Going table counts words flags marks₀ order₀ (set marks i 1) (set order placed i) (placed + 1) (i + 1)
+      → Going whole table counts words flags (set marks i 1) (set order placed i) (placed + 1) (i + 1)
   going-rise is room l p e =
       let f : firstFrom (ready table counts words flags marks placed) 0 (table .n) ≡ At i = first-at _ 0 (table .n) i (omega arith) (omega arith) e (λ t a b. g .quiet t b) in
       let r = going-take i i is room (omega arith) (omega arith) (omega arith) f in
@@ -102,15 +108,15 @@ module _ {table : FunnelTable} {counts words flags marks₀ order₀ marks order
 
   module _ (is : IsPlan (table .n) (table .e) (table .plan) counts) (start : i ≡ primaryStart (table .plan) counts) (within : i ≤ table .n) where
     pub going-special : (s : ℕ) → placed < table .n → firstFrom (ready table counts words flags marks placed) i (table .n - i) ≡ At s
-        → Going table counts words flags marks₀ order₀ (set marks s 1) (set order placed s) (placed + 1) i
+        → Going whole table counts words flags (set marks s 1) (set order placed s) (placed + 1) i
     going-special s room e =
         let f = first-found _ i (table .n - i) s e in
         going-take s i is room (f .least) (omega arith) (omega arith) (first-skip _ i (table .n) within (g .quiet) ∙ e)
 
     pub going-stop : placed < table .n → firstFrom (ready table counts words flags marks placed) i (table .n - i) ≡ Nothing
-        → taken marks order placed ≡ greedyOf table counts words flags (table .n) (table .n) marks₀ order₀ 0
+        → taken marks order placed ≡ whole
     going-stop room e = sym (g .left ∙ greedy-step room ∙ rw (first-skip (ready table counts words flags marks placed) i (table .n) within (g .quiet), e))
 
-  pub going-end : table .n ≤ placed → taken marks order placed ≡ greedyOf table counts words flags (table .n) (table .n) marks₀ order₀ 0
+  pub going-end : table .n ≤ placed → taken marks order placed ≡ whole
   unfolding greedyOf
   going-end h = sym (g .left ∙ (let e : table .n - placed ≡ 0 = omega arith in rw e))

@@ -1,4 +1,5 @@
 pub mod Check
+pub mod CheckLaws
 pub mod FirstLaws
 pub mod Greedy
 pub mod GreedyLaws

@@ -39,16 +39,18 @@ settles-above s (p ∷ places) h = (λ l. h .1, settles-above s places (h .1))
 settles-append : (s lo hi : ℕ) (places others : List Place) → Rising lo hi places → Above s others → Settles s (places ++ others)
 unfolding Settles Rising
 settles-append s lo hi [] others r h = settles-above s others h
-settles-append s lo hi (p ∷ places) others r h =
-    (λ l. every-append _ places others (every-map (Between (slotOf p + 1) hi) (λ q. s < slotOf q) (λ q b. omega (arith, b .from)) places (rising-between (slotOf p + 1) hi places (r .1))) h,
-    settles-append s (slotOf p + 1) hi places others (r .1) h)
+settles-append s lo hi (p ∷ places) others r h = (
+  λ l. every-append _ places others (every-map (Between (slotOf p + 1) hi) (λ q. s < slotOf q) (λ q b. omega (arith, b .from)) places (rising-between (slotOf p + 1) hi places (r .1))) h,
+  settles-append s (slotOf p + 1) hi places others (r .1) h,
+)
 
 settles-rising : (s lo hi : ℕ) (places : List Place) → Rising lo hi places → Settles s places
 unfolding Settles Rising
 settles-rising s lo hi [] r = tt
-settles-rising s lo hi (p ∷ places) r =
-    (λ l. every-map (Between (slotOf p + 1) hi) (λ q. s < slotOf q) (λ q b. omega (arith, b .from)) places (rising-between (slotOf p + 1) hi places (r .1)),
-    settles-rising s (slotOf p + 1) hi places (r .1))
+settles-rising s lo hi (p ∷ places) r = (
+  λ l. every-map (Between (slotOf p + 1) hi) (λ q. s < slotOf q) (λ q b. omega (arith, b .from)) places (rising-between (slotOf p + 1) hi places (r .1)),
+  settles-rising s (slotOf p + 1) hi places (r .1),
+)
 
 settles-join : (s lo hi : ℕ) (p q : Path) → Rising lo hi (p .places) → Above s (q .places) → Settles s (join p q .places)
 unfolding join

@@ -159,6 +159,11 @@ module _ (table : FunnelTable) (counts words flags marks : List ℕ) (placed s :
   unfolding ready
   ready-by h o m r e = rw (unplaced-yes flags marks s o m) (into-search h r e)
 
+  -- as the code finds it
+  pub ready-found : placed < table .plan .maximum → (getD flags s 0 ≡ 0 → ⊥) → getD marks s 0 ≡ 0 → (r x : Search)
+      → r ≡ findOf table counts words marks (getD words s 0) → r ≡ x → vacantAt s x ≡ ready table counts words flags marks placed s
+  ready-found h o m r x e q = sym (ready-by h o m x (sym e ∙ q))
+
 -- what a ready slot is
 pub record Ready (table : FunnelTable) (counts words flags marks : List ℕ) (placed s : ℕ) : Type 0 where
   pub occupied : getD flags s 0 ≡ 0 → ⊥

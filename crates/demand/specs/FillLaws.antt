@@ -111,12 +111,12 @@ module _ (table : FunnelTable) (counts : List ℕ) (below : (identity : ℕ) →
       let l = slot-of identity s probes place z at f in
       fills-clean r (sized-set s identity z)
       (record {
-         bits = λ t. getD-set-cases flags s 1 t (λ (x : ℕ). x ≤ 1) (l .in-flags) (λ e. omega arith) (λ d. c .bits t);
-         vacant-words = λ t v.
-             getD-set-cases words s identity t (λ (x : ℕ). x ≡ 0) (l .in-words)
-             (λ e. let q : getD (set flags s 1) s 0 ≡ 1 = getD-set-same flags s 1 0 (l .in-flags) in let y = rw e at v in absurd (omega arith))
-             (λ d. c .vacant-words t (rw (getD-set-other flags s t 1 0 d) at v));
-       })
+        bits = λ t. getD-set-cases flags s 1 t (λ (x : ℕ). x ≤ 1) (l .in-flags) (λ e. omega arith) (λ d. c .bits t);
+        vacant-words = λ t v.
+            getD-set-cases words s identity t (λ (x : ℕ). x ≡ 0) (l .in-words)
+            (λ e. let q : getD (set flags s 1) s 0 ≡ 1 = getD-set-same flags s 1 0 (l .in-flags) in let y = rw e at v in absurd (omega arith))
+            (λ d. c .vacant-words t (rw (getD-set-other flags s t 1 0 d) at v));
+      })
 
   -- THE MAIN LEMMA. Insertions end in a part of the image; below the maximum nothing is ready for the placed part. Then whatever they put in is placed: the
   -- first that is not would be ready, since every slot that its insertion passed is placed with the same word, and its own is not.
