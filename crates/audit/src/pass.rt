@@ -2,18 +2,36 @@
 // among the special slots a placement can free a smaller one, so there each turn looks from the start of the special part.
 ghost use mathlib.Core.Path.{_≡_};
 ghost use Prim.Native.Nat.{_-_, _≤_};
-ghost use lib.ListN.{length};
+ghost use lib.ListN.{length, replicate};
 ghost use Rattle.audit.specs.Greedy.{taken, greedyOf};
 ghost use Rattle.audit.specs.GreedyLaws.{Going};
 ghost use Rattle.funnel.specs.Path.{primaryStart};
 ghost use Rattle.funnel.specs.Valid.{Valid};
 use crate::ready::is_ready;
 use crate::ready::next_ready;
-use crate::slots::First;
+use crate::slots::{clear, First};
 use funnel::table::FunnelTable;
 
+// Takes from empty marks what can be taken, in 01's order: how many.
+pub fn take_members(
+    table: FunnelTable,
+    counts: &[u64; 118],
+    words: &[u64],
+    flags: &[u8],
+    marks: &mut [u8],
+    order: &mut [u64],
+) -> u64
+    requires { ⌜ Valid table (now counts) (now words) (now flags) × (length (now marks) ≡ table .n) × (length (now order) ≡ table .n) ⌝ }
+    ensures { λ r. ⌜ taken (now (marks .exit)) (now (order .exit)) r ≡ greedyOf table (now (counts .entry)) (now (words .entry)) (now (flags .entry)) (table .n) (table .n) (replicate (table .n) 0) (now (order .entry)) 0 ⌝ }
+{
+    clear(marks);
+    let start = table.n - table.plan.special_len;
+    let ordinary = take_ordinary(table, counts, words, flags, marks, order, start);
+    take_special(table, counts, words, flags, marks, order, start, ordinary)
+}
+
 // Takes what can be taken of the slots below the special part: how many.
-pub fn take_ordinary(
+fn take_ordinary(
     table: FunnelTable,
     counts: &[u64; 118],
     words: &[u64],
@@ -40,7 +58,7 @@ pub fn take_ordinary(
 }
 
 // Takes the smallest ready slot of the special part, which starts at `start`, again and again: how many are placed then.
-pub fn take_special(
+fn take_special(
     table: FunnelTable,
     counts: &[u64; 118],
     words: &[u64],
