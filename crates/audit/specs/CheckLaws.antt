@@ -57,13 +57,19 @@ module _ {before now : List ℕ} {i : ℕ} (c : Clearing before now i) where
 
 -- ---- the endings
 
-module _ (table : FunnelTable) (counts words flags marks order : List ℕ) where
-  pub audit-dirty : (s : ℕ) → firstFrom (dirtyAt words flags) 0 (table .n) ≡ At s → ended (checked.Dirty s) marks order ≡ auditOf table counts words flags marks order
-  unfolding auditOf
-  audit-dirty s e = rw e
-
-  pub audit-ends : firstFrom (dirtyAt words flags) 0 (table .n) ≡ Nothing → (marks' order' : List ℕ) (placed : ℕ) (r : First)
+module _ (table : FunnelTable) (counts words flags order : List ℕ) where
+  -- as the code finds the first slot that is left
+  pub take-ends : (marks' order' : List ℕ) (placed : ℕ) (f r : First)
       → taken marks' order' placed ≡ greedyOf table counts words flags (table .n) (table .n) (replicate (table .n) 0) order 0
-      → firstFrom (unplaced flags marks') 0 (table .n) ≡ r → ended (answerOf r placed) marks' order' ≡ auditOf table counts words flags marks order
-  unfolding auditOf takeAll endOf
-  audit-ends d marks' order' placed r e u = rw (d, ← e, u)
+      → f ≡ firstFrom (unplaced flags marks') 0 (table .n) → f ≡ r → ended (answerOf r placed) marks' order' ≡ takeAll table counts words flags order
+  unfolding takeAll endOf
+  take-ends marks' order' placed f r e u q = rw (← e, ← u, q)
+
+  module _ (marks : List ℕ) (f : First) (d : f ≡ firstFrom (dirtyAt words flags) 0 (table .n)) where
+    pub audit-dirty : (s : ℕ) → f ≡ At s → ended (checked.Dirty s) marks order ≡ auditOf table counts words flags marks order
+    unfolding auditOf
+    audit-dirty s e = rw (← d, e)
+
+    pub audit-clean : f ≡ Nothing → takeAll table counts words flags order ≡ auditOf table counts words flags marks order
+    unfolding auditOf
+    audit-clean e = rw (← d, e)

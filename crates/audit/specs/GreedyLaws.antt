@@ -6,7 +6,7 @@ use mathlib.Core.Logic.{⊎-elim}
 use Prim.Native.Nat.{ℕ, zero, suc, _+_, _-_, _≤_, _<_}
 use native.Mathlib.Nat.{eq-or-lt-of-le}
 use native.Mathlib.Omega.{arith}
-use lib.ListN.{length, getD, set, length-set}
+use lib.ListN.{length, getD, set, replicate, length-set}
 use lib.Seq.{getD-set-same}
 use lib.Dec.{ltb}
 use borrow.Author.Tests.{ltb-true, ltb-false}
@@ -120,3 +120,8 @@ module _ {whole : Taken} {table : FunnelTable} {counts words flags marks order :
   pub going-end : table .n ≤ placed → taken marks order placed ≡ whole
   unfolding greedyOf
   going-end h = sym (g .left ∙ (let e : table .n - placed ≡ 0 = omega arith in rw e))
+
+-- from marks that were cleared
+pub greedy-cleared : (table : FunnelTable) (counts words flags marks order l : List ℕ) → marks ≡ replicate (length l) 0 → length l ≡ table .n
+    → greedyOf table counts words flags (table .n) (table .n) marks order 0 ≡ greedyOf table counts words flags (table .n) (table .n) (replicate (table .n) 0) order 0
+greedy-cleared table counts words flags marks order l e h = rw (e, h)

@@ -1,3 +1,6 @@
+-- `audit::check::audit` meets its contract. Assumes nothing.
+use mathlib.Core.Path.{_∙_}
+use Rattle.audit.specs.CheckLaws.{audit-dirty, audit-clean}
 use borrow.Author.Needs.{needs}
 use Rattle.audit.proofs.check.audit.Statement.{statement}
 use Rattle.audit.proofs.check.audit.Tie as tie
@@ -24,7 +27,7 @@ place-members-requires c κs = search needs
 
 -- src/check.rt:23:1
 returns : tie.Need-returns
-returns c = ?
+returns c = audit-dirty _ _ _ _ _ _ _ (c .before .before .before .first-dirty .ensures) _ (c .before .slot .given .1)
 
 -- src/check.rt:23:1
 same-length : tie.Need-same-length
@@ -36,7 +39,7 @@ same-length-2 c = search needs
 
 -- src/check.rt:23:1
 returns-2 : tie.Need-returns-2
-returns-2 c = ?
+returns-2 c = c .before .before .before .before .place-members .ensures ∙ audit-clean _ _ _ _ _ _ _ (c .before .before .before .before .before .before .before .before .before .first-dirty .ensures) (c .before .before .before .before .before .before .before .enum-told .given .1)
 
 pub audit-spec : {M : Type 1} → statement M
 audit-spec =

@@ -1,3 +1,5 @@
+-- `audit::check::place_members` meets its contract. Assumes nothing.
+use Rattle.audit.specs.CheckLaws.{take-ends}
 use borrow.Author.Needs.{needs}
 use Rattle.audit.proofs.check.place_members.Statement.{statement}
 use Rattle.audit.proofs.check.place_members.Tie as tie
@@ -32,7 +34,7 @@ same-length-2 c = search needs
 
 -- src/check.rt:41:1
 returns : tie.Need-returns
-returns c = ?
+returns c = take-ends _ _ _ _ _ _ _ _ _ _ (c .before .before .before .before .before .before .before .before .before .take-members .ensures) (c .before .before .before .first-unplaced .ensures) (c .before .slot .given .1)
 
 -- src/check.rt:41:1
 same-length-3 : tie.Need-same-length-3
@@ -44,7 +46,7 @@ same-length-4 c = search needs
 
 -- src/check.rt:41:1
 returns-2 : tie.Need-returns-2
-returns-2 c = ?
+returns-2 c = take-ends _ _ _ _ _ _ _ _ _ _ (c .before .before .before .before .before .before .before .before .take-members .ensures) (c .before .before .first-unplaced .ensures) (c .enum-told .given .1)
 
 pub place-members-spec : {M : Type 1} → statement M
 place-members-spec =

@@ -1,3 +1,11 @@
+-- `audit::pass::take_members` meets its contract. Assumes nothing.
+use native.Mathlib.Omega.{arith}
+use mathlib.Core.Path.{ap, sym, _∙_}
+use lib.ListN.{length, length-replicate}
+use denote.Ref.{now}
+use Rattle.geometry.specs.FunnelLaws.{plan-facts}
+use Rattle.funnel.specs.PlanLaws.{primary-start}
+use Rattle.audit.specs.GreedyLaws.{going-on, greedy-cleared, valid-marks}
 use borrow.Author.Needs.{needs}
 use Rattle.audit.proofs.pass.take_members.Statement.{statement}
 use Rattle.audit.proofs.pass.take_members.Tie as tie
@@ -13,15 +21,15 @@ clear-requires c κs = search needs
 
 -- src/pass.rt:28:17
 sub-start : tie.Need-sub-start
-sub-start c = ?
+sub-start c = let f = plan-facts (c .before .before .before .before .before .before .before .before .before .pre .0 .planned) in omega arith
 
 -- src/pass.rt:29:9
 take-ordinary-requires : tie.Need-take-ordinary-requires
-take-ordinary-requires c κs = ?
+take-ordinary-requires c κs = (valid-marks (c .before .before .before .before .before .before .before .before .before .before .before .pre .0) _ (ap length (c .before .before .before .before .before .clear .ensures) ∙ length-replicate _ _ ∙ c .before .before .before .before .before .before .before .before .before .before .before .pre .1), c .before .before .before .before .before .before .before .before .before .before .before .pre .0 .flags-length, c .before .before .before .before .before .before .before .before .before .before .before .pre .2, sym (primary-start (c .before .before .before .before .before .before .before .before .before .before .before .pre .0 .planned)), omega arith)
 
 -- src/pass.rt:30:5
 take-special-requires : tie.Need-take-special-requires
-take-special-requires c κs = ?
+take-special-requires c κs = (valid-marks (c .before .before .before .before .before .before .before .before .before .before .before .before .before .before .before .before .before .before .pre .0) _ (c .before .before .before .before .before .before .take-ordinary .ensures .marks-n), c .before .before .before .before .before .before .before .before .before .before .before .before .before .before .before .before .before .before .pre .0 .flags-length, sym (primary-start (c .before .before .before .before .before .before .before .before .before .before .before .before .before .before .before .before .before .before .pre .0 .planned)), omega arith, going-on (c .before .before .before .before .before .before .take-ordinary .ensures))
 
 -- src/pass.rt:16:1
 same-length : tie.Need-same-length
@@ -33,7 +41,7 @@ same-length-2 c = search needs
 
 -- src/pass.rt:16:1
 returns : tie.Need-returns
-returns c = ?
+returns c = c .before .before .before .before .take-special .ensures ∙ sym (c .before .before .before .before .before .before .before .before .before .before .before .take-ordinary .ensures .left) ∙ greedy-cleared _ _ _ _ _ _ (now (c .before .before .before .before .before .before .before .before .before .before .before .before .before .before .before .before .before .before .before .before .before .before .before .args .marks)) (c .before .before .before .before .before .before .before .before .before .before .before .before .before .before .before .before .before .clear .ensures) (c .before .before .before .before .before .before .before .before .before .before .before .before .before .before .before .before .before .before .before .before .before .before .before .pre .1)
 
 pub take-members-spec : {M : Type 1} → statement M
 take-members-spec =
