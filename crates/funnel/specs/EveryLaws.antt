@@ -11,6 +11,12 @@ unfolding Every
 every-append P [] others h k = k
 every-append P (p ∷ places) others h k = (h .0, every-append P places others (h .1) k)
 
+-- of a place in the middle
+pub every-middle : (P : Place → Type 0) (places others : List Place) (p : Place) → Every P (places ++ (p ∷ others)) → P p
+unfolding Every
+every-middle P [] others p h = h .0
+every-middle P (q ∷ places) others p h = every-middle P places others p (h .1)
+
 pub every-map : (P Q : Place → Type 0) → ((p : Place) → P p → Q p) → (places : List Place) → Every P places → Every Q places
 unfolding Every
 every-map P Q f [] h = tt

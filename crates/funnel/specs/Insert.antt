@@ -32,6 +32,14 @@ withCount table count =
     record
     { n = table .n; e = table .e; seed = table .seed; «word_cap» = table .«word_cap»; count = count; plan = table .plan }
 
+-- the table after an answer: an insertion steps the count
+abbrev pub stepped : Insertion → FunnelTable → FunnelTable
+stepped (insertion.Inserted probes place) table = withCount table (table .count + 1)
+stepped (insertion.Range refusal) table = table
+stepped (insertion.Duplicate probes place) table = table
+stepped (insertion.Exhausted probes) table = table
+stepped (insertion.Full probes) table = table
+
 -- "EXHAUSTED: count at least n minus floor(n/2^e)"; else what the search found
 abbrev pub unlessExhausted : FunnelTable → (words flags : List ℕ) (probes : ℕ) → Done → Done
 unlessExhausted table words flags probes next =

@@ -1,9 +1,13 @@
+pub mod CallLaws
+pub mod Calls
 pub mod Every
 pub mod EveryLaws
 pub mod FindLaws
 pub mod Insert
+pub mod InsertLaws
 pub mod Path
 pub mod PathLaws
+pub mod PlaceLaws
 pub mod PlanLaws
 pub mod Search
 pub mod SearchLaws

@@ -1,7 +1,7 @@
 -- Laws of walks and searches: how they go along joined paths, what they count, and what they depend on. Assumes nothing.
 use mathlib.Core.Bool.{Bool, true, false}
 use mathlib.Core.List.{List, [], _∷_, _++_}
-use mathlib.Core.Path.{_≡_, refl, ap, sym, _∙_}
+use mathlib.Core.Path.{_≡_, refl, ap, sym, subst, _∙_}
 use Prim.Native.Nat.{ℕ, zero, suc, _+_, _-_, _≤_, _<_}
 use native.Mathlib.Omega.{arith}
 use lib.ListN.{length, getD, length-append}
@@ -12,6 +12,8 @@ use Rattle.refusal.specs.declared.RangeRefusal.{RangeRefusal}
 use Rattle.funnel.specs.declared.table.Search.{Search}
 use Rattle.funnel.specs.declared.table.Search.the-variants.{Hit, Vacant, Full, Range}
 use Rattle.funnel.specs.Path.{Ending, full, refused, Path, slotOf, run, stopped, joinAt, join}
+use Rattle.funnel.specs.Every.{Every}
+use Rattle.funnel.specs.EveryLaws.{every-middle}
 use Rattle.funnel.specs.Search.{look, endOf, walkOf, searchOf, readOn, readingsOf}
 
 -- a search goes on along a second path where the first had no vacancy
@@ -94,3 +96,100 @@ module _ (words flags : List ℕ) (identity : ℕ) where
   pub search-full : (p : Path) (k j : ℕ) → searchOf words flags identity p k ≡ Full j → j ≡ k + length (p .places)
   unfolding searchOf
   search-full p k j h = walk-full (p .places) (p .ending) k j h
+
+-- ---- where a search stops
+
+-- a place that a search passes: occupied, by another identity
+pub record Passes (words flags : List ℕ) (identity : ℕ) (p : Place) : Type 0 where
+  pub occupied : getD flags (slotOf p) 0 ≡ 0 → ⊥
+  pub other : getD words (slotOf p) 0 ≡ identity → ⊥
+
+-- a search reaches the place p of a list after k readings, and has made j with it
+pub record Reached (words flags : List ℕ) (identity : ℕ) (places : List Place) (k j : ℕ) (p : Place) : Type 0 where
+  pub passed : List Place
+  pub rest : List Place
+  pub whole : places ≡ passed ++ (p ∷ rest)
+  pub others : Every (Passes words flags identity) passed
+  pub probes : j ≡ k + length passed + 1
+
+pub every-reached : (P : Place → Type 0) {words flags : List ℕ} {identity k j : ℕ} {places : List Place} {p : Place}
+    → Reached words flags identity places k j p → Every P places → P p
+every-reached P {p = p} r h = go (r .passed) (subst (Every P) (r .whole) h)
+  where
+    go : (passed : List Place) → Every P (passed ++ (p ∷ r .rest)) → P p
+    go passed h = every-middle P passed (r .rest) p h
+
+module _ (words flags : List ℕ) (identity : ℕ) where
+  reached-first : (p : Place) (places : List Place) (k : ℕ) → Reached words flags identity (p ∷ places) k (k + 1) p
+  unfolding Every
+  reached-first p places k = record { passed = []; rest = places; whole = refl; others = tt; probes = omega arith }
+
+  reached-later : (q : Place) (places : List Place) (k j : ℕ) (p : Place) → Passes words flags identity q → Reached words flags identity places (k + 1) j p
+      → Reached words flags identity (q ∷ places) k j p
+  unfolding Every
+  reached-later q places k j p o r =
+      let l = r .probes in
+      record { passed = q ∷ r .passed; rest = r .rest; whole = ap (λ (x : List Place). q ∷ x) (r .whole); others = (o, r .others); probes = omega arith }
+
+  passes-of : (p : Place) → eqb (getD flags (slotOf p) 0) 0 ≡ false → eqb (getD words (slotOf p) 0) identity ≡ false → Passes words flags identity p
+  passes-of p v s = record { occupied = eqb-false _ _ v; other = eqb-false _ _ s }
+
+  -- a vacancy that a walk answers was reached, and is vacant
+  pub walk-vacant : (places : List Place) (e : Ending) (k j : ℕ) (p : Place) → walkOf words flags identity places e k ≡ Vacant j p
+      → Reached words flags identity places k j p × (getD flags (slotOf p) 0 ≡ 0)
+  unfolding walkOf
+  walk-vacant [] full k j p h = let z : _≡_ {A = ℕ} 0 1 = cc in absurd (omega arith)
+  walk-vacant [] (refused refusal) k j p h = let z : _≡_ {A = ℕ} 0 1 = cc in absurd (omega arith)
+  walk-vacant (q ∷ places) e k j p h =
+      go (eqb (getD flags (slotOf q) 0) 0) (eqb (getD words (slotOf q) 0) identity) refl refl h (walk-vacant places e (k + 1) j p)
+    where
+      go : (v s : Bool) → eqb (getD flags (slotOf q) 0) 0 ≡ v → eqb (getD words (slotOf q) 0) identity ≡ s
+          → look v s (k + 1) q (walkOf words flags identity places e (k + 1)) ≡ Vacant j p
+          → (walkOf words flags identity places e (k + 1) ≡ Vacant j p → Reached words flags identity places (k + 1) j p × (getD flags (slotOf p) 0 ≡ 0))
+          → Reached words flags identity (q ∷ places) k j p × (getD flags (slotOf p) 0 ≡ 0)
+      go true s ev es h ih =
+          let a : q ≡ p = cc in
+          let b : k + 1 ≡ j = cc in
+          rw (← a, ← b) (reached-first q places k, eqb-true _ _ ev)
+      go false true ev es h ih = let z : _≡_ {A = ℕ} 0 1 = cc in absurd (omega arith)
+      go false false ev es h ih = let r = ih h in (reached-later q places k j p (passes-of q ev es) (r .0), r .1)
+
+  -- a hit that a walk answers was reached, is occupied, and holds the identity
+  pub walk-hit : (places : List Place) (e : Ending) (k j : ℕ) (p : Place) → walkOf words flags identity places e k ≡ Hit j p
+      → Reached words flags identity places k j p × (getD flags (slotOf p) 0 ≡ 0 → ⊥) × (getD words (slotOf p) 0 ≡ identity)
+  unfolding walkOf
+  walk-hit [] full k j p h = let z : _≡_ {A = ℕ} 0 1 = cc in absurd (omega arith)
+  walk-hit [] (refused refusal) k j p h = let z : _≡_ {A = ℕ} 0 1 = cc in absurd (omega arith)
+  walk-hit (q ∷ places) e k j p h =
+      go (eqb (getD flags (slotOf q) 0) 0) (eqb (getD words (slotOf q) 0) identity) refl refl h (walk-hit places e (k + 1) j p)
+    where
+      go : (v s : Bool) → eqb (getD flags (slotOf q) 0) 0 ≡ v → eqb (getD words (slotOf q) 0) identity ≡ s
+          → look v s (k + 1) q (walkOf words flags identity places e (k + 1)) ≡ Hit j p
+          → (walkOf words flags identity places e (k + 1) ≡ Hit j p → Reached words flags identity places (k + 1) j p × (getD flags (slotOf p) 0 ≡ 0 → ⊥) × (getD words (slotOf p) 0 ≡ identity))
+          → Reached words flags identity (q ∷ places) k j p × (getD flags (slotOf p) 0 ≡ 0 → ⊥) × (getD words (slotOf p) 0 ≡ identity)
+      go true s ev es h ih = let z : _≡_ {A = ℕ} 0 1 = cc in absurd (omega arith)
+      go false true ev es h ih =
+          let a : q ≡ p = cc in
+          let b : k + 1 ≡ j = cc in
+          rw (← a, ← b) (reached-first q places k, eqb-false _ _ ev, eqb-true _ _ es)
+      go false false ev es h ih = let r = ih h in (reached-later q places k j p (passes-of q ev es) (r .0), r .1, r .2)
+
+  -- and the other way round: what passes the places before stops where it is vacant or holds the identity
+  walk-passed : (passed rest : List Place) (e : Ending) (k : ℕ) → Every (Passes words flags identity) passed
+      → walkOf words flags identity (passed ++ rest) e k ≡ walkOf words flags identity rest e (k + length passed)
+  unfolding walkOf Every
+  walk-passed [] rest e k h = let z : k + 0 ≡ k = omega arith in rw z
+  walk-passed (q ∷ passed) rest e k h =
+      let f : k + 1 + length passed ≡ k + suc (length passed) = omega arith in
+      rw (ne-eqb _ _ (h .0 .occupied), ne-eqb _ _ (h .0 .other)) (walk-passed passed rest e (k + 1) (h .1) ∙ rw f)
+
+  module _ (places : List Place) (e : Ending) (k j : ℕ) (p : Place) (r : Reached words flags identity places k j p) where
+    pub reached-vacant : getD flags (slotOf p) 0 ≡ 0 → walkOf words flags identity places e k ≡ Vacant j p
+    unfolding walkOf
+    reached-vacant v =
+        rw (r .whole, walk-passed (r .passed) (p ∷ r .rest) e k (r .others), eq-eqb _ _ v) (ap (λ (x : ℕ). Vacant x p) (sym (r .probes)))
+
+    pub reached-hit : (getD flags (slotOf p) 0 ≡ 0 → ⊥) → getD words (slotOf p) 0 ≡ identity → walkOf words flags identity places e k ≡ Hit j p
+    unfolding walkOf
+    reached-hit v s =
+        rw (r .whole, walk-passed (r .passed) (p ∷ r .rest) e k (r .others), ne-eqb _ _ v, eq-eqb _ _ s) (ap (λ (x : ℕ). Hit x p) (sym (r .probes)))

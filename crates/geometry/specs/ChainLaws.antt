@@ -7,7 +7,7 @@ use native.Mathlib.Decide.{decLe}
 use native.Mathlib.Omega.{arith}
 use lib.ListN.{length}
 use Rattle.geometry.specs.Extreme.{IsLargest, IsSmallest}
-use Rattle.geometry.specs.Counts.{low, high, lowSum, highSum, Brackets, Follows, Rest, quarter, First, Counts, total}
+use Rattle.geometry.specs.Counts.{low, high, lowSum, highSum, Brackets, Rest, quarter, First, Counts, total}
 use Rattle.geometry.specs.CountsLaws.{lowSum-mono, highSum-mono, lowSum-more, is-next, next-past}
 use Rattle.geometry.specs.Chain.{Steps, Tight}
 

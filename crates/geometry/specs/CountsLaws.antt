@@ -6,7 +6,7 @@ use native.Mathlib.Nat.{lt-of-not-le}
 use native.Mathlib.Decide.{decLe}
 use native.Mathlib.Omega.{arith}
 use lib.ListN.{length}
-use Rattle.geometry.specs.Extreme.{IsLargest, IsSmallest}
+use Rattle.geometry.specs.Extreme.{IsLargest}
 use Rattle.geometry.specs.ExtremeLaws.{largest-one, smallest-one}
 use Rattle.geometry.specs.Counts.{low, high, lowSum, highSum, Follows, Rest, First, Counts}
 

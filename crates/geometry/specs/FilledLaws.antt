@@ -15,7 +15,7 @@ use Rattle.geometry.specs.Extreme.{IsLargest, IsSmallest}
 use Rattle.geometry.specs.Counts.{low, high, lowSum, highSum, Brackets, Follows, Rest, quarter, First, Counts}
 use Rattle.geometry.specs.Filled.{Fits, Filled}
 use Rattle.geometry.specs.CountsLaws.{lowSum-mono, highSum-mono, no-gap}
-use Rattle.geometry.specs.ChainLaws.{first-tests}
+use Rattle.geometry.specs.ChainLaws.{first-tests, down, up}
 use Rattle.geometry.specs.CountsExist.{fits-first, fits-next, choose-top, choose-middle, choose-bottom, reach-pos, lowSum-one}
 use Rattle.geometry.specs.PathLaws.{lowSum-step, highSum-step}
 
@@ -60,8 +60,14 @@ pub record Reach (t levels lo hi : ℕ) : Type 0 where
   pub holds : t ≤ highSum hi levels
   pub below : (z : ℕ) → t ≤ highSum z levels → lo ≤ z
 
-pub reach-start : (t levels : ℕ) → 0 < levels → 0 < t → Reach t levels 1 t
-reach-start t levels p h = record { pos = omega arith; order = h; most = omega arith; holds = omega (arith, highSum-step t levels p); below = λ z r. reach-pos t levels z h r }
+pub reach-start : (t levels q : ℕ) → 0 < levels → highSum q levels < t → Reach t levels (q + 1) t
+reach-start t levels q p h =
+    let s = highSum-step q levels p in
+    record { pos = omega arith; order = omega arith; most = omega arith; holds = omega (arith, highSum-step t levels p); below = λ z r. past z r (decLe (q + 1) z) }
+  where
+    past : (z : ℕ) → t ≤ highSum z levels → Dec (q + 1 ≤ z) → q + 1 ≤ z
+    past z r (yes l) = l
+    past z r (no f) = let l = lt-of-not-le f in absurd (omega (arith, highSum-mono z q levels (omega arith)))
 
 module _ {t levels lo hi : ℕ} (r : Reach t levels lo hi) where
   pub reach-left : (mid : ℕ) → lo ≤ mid → mid ≤ hi → leb t (highSum mid levels) ≡ true → Reach t levels lo mid
@@ -85,8 +91,21 @@ pub record Within (t levels lo hi : ℕ) : Type 0 where
   pub holds : lowSum lo levels ≤ t
   pub above : (z : ℕ) → lowSum z levels ≤ t → z ≤ hi
 
-pub within-start : (t levels : ℕ) → 0 < levels → levels ≤ t → Within t levels 1 t
-within-start t levels p h = record { pos = omega arith; order = omega arith; most = omega arith; holds = omega (arith, lowSum-one levels); above = λ z r. omega (arith, lowSum-step z levels p) }
+pub within-two : (t levels q : ℕ) → levels ≤ t → t < lowSum q levels → 2 ≤ q
+within-two t levels q h l = go (decLe 2 q)
+  where
+    go : Dec (2 ≤ q) → 2 ≤ q
+    go (yes p) = p
+    go (no f) = let k = lt-of-not-le f in absurd (omega (arith, lowSum-mono q 1 levels (omega arith), lowSum-one levels))
+
+pub within-start : (t levels q : ℕ) → levels ≤ t → t < lowSum q levels → q ≤ t → Within t levels 1 (q - 1)
+within-start t levels q h l m =
+    let two = within-two t levels q h l in
+    record { pos = omega arith; order = omega arith; most = omega arith; holds = omega (arith, lowSum-one levels); above = λ z r. under z r (decLe q z) }
+  where
+    under : (z : ℕ) → lowSum z levels ≤ t → Dec (q ≤ z) → z ≤ q - 1
+    under z r (yes p) = absurd (omega (arith, lowSum-mono q z levels p))
+    under z r (no f) = let k = lt-of-not-le f in omega arith
 
 module _ {t levels lo hi : ℕ} (r : Within t levels lo hi) where
   pub within-right : (mid : ℕ) → lo ≤ mid → mid ≤ hi → leb (lowSum mid levels) t ≡ true → Within t levels mid hi
@@ -116,8 +135,37 @@ ends-ordered t levels lo hi h a b = a .below hi reach
     reach : t ≤ highSum hi levels
     reach = omega (arith, no-gap hi levels pos, past (decLe (lowSum (hi + 1) levels) t))
 
-pub first-is : (t levels lo hi x : ℕ) → levels ≤ t → IsSmallest (λ y. t ≤ highSum y levels) lo → IsLargest (λ y. lowSum y levels ≤ t) hi → (lo ≤ hi → x ≡ max lo (min hi (quarter t))) → First t levels x
-first-is t levels lo hi x h a b e = let o = ends-ordered t levels lo hi h a b in record { lo = lo; hi = hi; lo-smallest = a; hi-largest = b; ordered = o; clamped = e o }
+-- the first count from the quarter's own paths
+module _ (t levels : ℕ) (pos : 0 < levels) (enough : levels ≤ t) where
+  lows : (y : ℕ) × IsLargest (λ z. lowSum z levels ≤ t) y
+  lows = go levels pos enough
+    where
+      go : (n : ℕ) → 0 < n → n ≤ t → (y : ℕ) × IsLargest (λ z. lowSum z n ≤ t) y
+      go zero p h = absurd (omega arith)
+      go (suc n) p h = up t n 1 t (omega arith) (omega (arith, lowSum-one (suc n)))
+
+  highs : (y : ℕ) × IsSmallest (λ z. t ≤ highSum z levels) y
+  highs = down t levels t (omega (arith, highSum-step t levels pos))
+
+  first-is : (lo hi x : ℕ) → IsSmallest (λ y. t ≤ highSum y levels) lo → IsLargest (λ y. lowSum y levels ≤ t) hi → (lo ≤ hi → x ≡ max lo (min hi (quarter t))) → First t levels x
+  first-is lo hi x a b e = let o = ends-ordered t levels lo hi enough a b in record { lo = lo; hi = hi; lo-smallest = a; hi-largest = b; ordered = o; clamped = e o }
+
+  module _ (q : ℕ) (is : q ≡ quarter t) where
+    pub first-quarter : t ≤ highSum q levels → lowSum q levels ≤ t → First t levels q
+    first-quarter a b =
+        let x = highs .1 .below q a in
+        let y = lows .1 .above q b in
+        first-is (highs .0) (lows .0) q (highs .1) (lows .1) (λ o. omega arith)
+
+    pub first-below : highSum q levels < t → (lo : ℕ) → IsSmallest (λ y. t ≤ highSum y levels) lo → First t levels lo
+    first-below a lo s =
+        let r = reach-start t levels q pos a .below lo (s .holds) in
+        first-is lo (lows .0) lo s (lows .1) (λ o. omega arith)
+
+    pub first-above : t < lowSum q levels → (hi : ℕ) → IsLargest (λ y. lowSum y levels ≤ t) hi → First t levels hi
+    first-above a hi l =
+        let r = within-start t levels q enough a (omega arith) .above hi (l .holds) in
+        first-is (highs .0) hi hi (highs .1) l (λ o. omega arith)
 
 -- filled up to i: whatever completes what is left completes the whole
 pub record Partial (t levels : ℕ) (old new : List ℕ) (i cur rem : ℕ) : Type 0 where

@@ -4,9 +4,8 @@ use mathlib.Core.List.{List}
 use Prim.Native.Nat.{ℕ, _+_, _-_, _*_, _/_, _≤_}
 use lib.ListN.{take, drop, getD, replicate}
 use Rattle.geometry.specs.Config.{Configured, maximum}
-use Rattle.geometry.specs.Extreme.{IsLargest}
 use Rattle.geometry.specs.Counts.{Counts}
-use Rattle.geometry.specs.Special.{loglog, SpecialLength}
+use Rattle.geometry.specs.Special.{loglog, SpecialMeasured}
 use Rattle.geometry.specs.declared.funnel.FunnelPlan.{FunnelPlan}
 
 -- "Funnel: alpha = 4e+10, beta = 2e"
@@ -16,7 +15,7 @@ alphaOf e = 4 * e + 10
 abbrev pub betaOf : ℕ → ℕ
 betaOf e = 2 * e
 
--- the numbers of the plan
+-- the plain numbers of the plan, and the parts of its special length
 pub record PlanNumbers (n e : ℕ) (p : FunnelPlan) : Type 0 where
   pub is-maximum : p .maximum ≡ maximum n e
   pub is-alpha : p .alpha ≡ alphaOf e
@@ -24,16 +23,11 @@ pub record PlanNumbers (n e : ℕ) (p : FunnelPlan) : Type 0 where
   -- "g = .., fallback width 2g"
   pub is-loglog : p .«loglog_ceiling» ≡ loglog n
   pub is-width : p .«fallback_bucket_width» ≡ 2 * loglog n
-  -- "Special length s is the largest with .."
-  pub special : IsLargest (SpecialLength n e) (p .«special_len»)
   -- "Primary is ceil(s/2), fallback floor(s/2)"
   pub is-primary : p .«special_primary_len» ≡ p .«special_len» - p .«special_len» / 2
   pub is-fallback : p .«special_fallback_len» ≡ p .«special_len» / 2
-  pub is-buckets : p .«fallback_bucket_count» ≡ p .«special_len» / 2 / (2 * loglog n)
-  -- "T = (n-s)/beta buckets"
-  pub is-total : p .«total_buckets» ≡ (n - p .«special_len») / betaOf e
 
--- the counts of t buckets over the levels, in an array of 118: the entries past the last level are 0
+-- "T = (n-s)/beta buckets fill alpha levels", in an array of 118: the entries past the last level are 0
 pub record PlanCounts (t levels first : ℕ) (cs : List ℕ) : Type 0 where
   pub is-first : first ≡ getD cs 0 0
   pub counts : Counts t levels (take levels cs)
@@ -44,6 +38,7 @@ pub record IsPlan (n e : ℕ) (p : FunnelPlan) (cs : List ℕ) : Type 0 where
   pub configured : Configured n e
   pub exponent : 3 ≤ e
   pub numbers : PlanNumbers n e p
+  pub special : SpecialMeasured n e (p .«special_len») (p .«total_buckets») (p .«fallback_bucket_count»)
   pub levels : PlanCounts (p .«total_buckets») (alphaOf e) (p .«first_bucket_count») cs
 
 -- there is a plan of n and e

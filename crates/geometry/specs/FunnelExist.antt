@@ -1,23 +1,23 @@
 -- When there is a plan: exactly where there is a special length, which always comes with a complete set of counts. It can
 -- be decided whether there is one, and whether given numbers are it. Assumes nothing.
-use mathlib.Core.Path.{_≡_, refl, sym, ap, subst, _∙_}
+use mathlib.Core.Path.{_≡_, refl, sym, ap, subst}
 use mathlib.Core.List.{List, [], _∷_, _++_}
 use Prim.Native.Nat.{ℕ, zero, suc, _+_, _-_, _*_, _/_, _≤_, _<_, _∣_}
 use native.Mathlib.Nat.{lt-of-not-le}
 use native.Mathlib.Decide.{decLe, decDvd, ℕ-discrete}
 use native.Mathlib.Omega.{arith}
-use lib.ListN.{length, take, drop, getD, replicate}
+use lib.ListN.{take, getD, replicate}
 use lib.Seq.{take-at, drop-at}
 use Rattle.geometry.specs.Config.{Configured, maximum}
 use Rattle.geometry.specs.Extreme.{IsLargest}
 use Rattle.geometry.specs.Counts.{Counts}
 use Rattle.geometry.specs.CountsExist.{counts-exist}
-use Rattle.geometry.specs.Special.{Special, loglog, specialLeast, specialMost, SpecialLength}
+use Rattle.geometry.specs.Special.{loglog, specialLeast, specialMost, SpecialLength}
 use Rattle.geometry.specs.SpecialLaws.{buckets-enough}
 use Rattle.geometry.specs.LengthLaws.{length-facts}
 use Rattle.geometry.specs.LevelLaws.{counts-length}
-use Rattle.geometry.specs.Funnel.{alphaOf, betaOf, PlanNumbers, PlanCounts, IsPlan, Layout}
-use Rattle.geometry.specs.FunnelLaws.{planOf, plan-made, plan-unique}
+use Rattle.geometry.specs.Funnel.{alphaOf, betaOf, PlanCounts, IsPlan, Layout}
+use Rattle.geometry.specs.FunnelLaws.{plan-made, plan-unique}
 use Rattle.geometry.specs.declared.funnel.FunnelPlan.{FunnelPlan}
 
 -- the plan with the special length s and the first count x
@@ -51,7 +51,8 @@ module _ (n e s : ℕ) (c : Configured n e) (h : 3 ≤ e) (l : IsLargest (Specia
       record {
         configured = c;
         exponent = h;
-        numbers = record { is-maximum = refl; is-alpha = refl; is-beta = refl; is-loglog = refl; is-width = refl; special = l; is-primary = refl; is-fallback = refl; is-buckets = refl; is-total = refl };
+        numbers = record { is-maximum = refl; is-alpha = refl; is-beta = refl; is-loglog = refl; is-width = refl; is-primary = refl; is-fallback = refl };
+        special = record { largest = l; is-main = refl; is-half = refl };
         levels = k;
       }
 
@@ -110,7 +111,7 @@ layout-dec n e = go (decLe 2 n) (decLe n 4294967296) (decLe 3 e) (largest-dec (S
     go (no k) b c s = no (λ l. k (l .2 .configured .least))
     go (yes a) (no k) c s = no (λ l. k (l .2 .configured .most))
     go (yes a) (yes b) (no k) s = no (λ l. k (l .2 .exponent))
-    go (yes a) (yes b) (yes c) (no k) = no (λ l. k (l .0 .«special_len», l .2 .numbers .special))
+    go (yes a) (yes b) (yes c) (no k) = no (λ l. k (l .0 .«special_len», l .2 .special .largest))
 
 -- equality of lists and of plans can be decided
 list-dec : (xs ys : List ℕ) → Dec (xs ≡ ys)

@@ -1,16 +1,15 @@
 -- Laws of a funnel's plan: the facts that callers lean on, and that there is at most one. Assumes nothing.
 use mathlib.Core.Path.{_≡_, refl, sym, ap, subst, _∙_}
-use mathlib.Core.List.{List, [], _∷_, _++_}
-use Prim.Native.Nat.{ℕ, zero, suc, _+_, _-_, _*_, _/_, _≤_, _<_}
-use native.Mathlib.Nat.{div-mul-cancel, mul-le-mul-right, add-mul}
+use mathlib.Core.List.{List, _++_}
+use Prim.Native.Nat.{ℕ, _+_, _-_, _*_, _/_, _≤_, _<_}
+use native.Mathlib.Nat.{div-mul-cancel, mul-le-mul-right}
 use native.Mathlib.Omega.{arith}
-use lib.ListN.{length, take, drop, getD, replicate, length-take, length-append, length-replicate, getD-replicate, take-append-drop}
+use lib.ListN.{length, take, drop, getD, length-append, length-replicate, getD-replicate, take-append-drop}
 use lib.Seq.{getD-take, getD-drop}
-use Rattle.geometry.specs.ConfigLaws.{reserve-le}
 use Rattle.geometry.specs.ExtremeLaws.{largest-one}
 use Rattle.geometry.specs.Counts.{Counts, total}
 use Rattle.geometry.specs.CountsLaws.{counts-one}
-use Rattle.geometry.specs.Special.{loglog}
+use Rattle.geometry.specs.Special.{loglog, SpecialMeasured}
 use Rattle.geometry.specs.SpecialLaws.{factor-pos, buckets-enough}
 use Rattle.geometry.specs.LoglogLaws.{loglog-facts}
 use Rattle.geometry.specs.LengthLaws.{length-facts, exponent-most}
@@ -50,37 +49,40 @@ module _ {n e : ℕ} {p : FunnelPlan} {cs : List ℕ} (i : IsPlan n e p cs) wher
   m : PlanNumbers n e p
   m = i .numbers
 
+  d : SpecialMeasured n e (p .«special_len») (p .«total_buckets») (p .«fallback_bucket_count»)
+  d = i .special
+
   c : PlanCounts (p .«total_buckets») (alphaOf e) (p .«first_bucket_count») cs
   c = i .levels
 
   e-top : e ≤ 27
-  e-top = exponent-most n e (p .«special_len») (i .configured .most) (m .special .holds)
+  e-top = exponent-most n e (p .«special_len») (i .configured .most) (d .largest .holds)
 
   main-whole : p .«total_buckets» * betaOf e ≡ n - p .«special_len»
-  main-whole = ap (λ (x : ℕ). x * betaOf e) (m .is-total) ∙ div-mul-cancel (betaOf e) (m .special .holds .main)
+  main-whole = ap (λ (x : ℕ). x * betaOf e) (d .is-main) ∙ div-mul-cancel (betaOf e) (d .largest .holds .main)
 
   half-whole : p .«fallback_bucket_count» * (2 * loglog n) ≡ p .«special_len» / 2
-  half-whole = ap (λ (x : ℕ). x * (2 * loglog n)) (m .is-buckets) ∙ div-mul-cancel (2 * loglog n) (m .special .holds .fallback)
+  half-whole = ap (λ (x : ℕ). x * (2 * loglog n)) (d .is-half) ∙ div-mul-cancel (2 * loglog n) (d .largest .holds .fallback)
 
   half-some : 0 < p .«fallback_bucket_count»
-  half-some = factor-pos (p .«fallback_bucket_count») (2 * loglog n) (omega (arith, half-whole, m .special .holds .some))
+  half-some = factor-pos (p .«fallback_bucket_count») (2 * loglog n) (omega (arith, half-whole, d .largest .holds .some))
 
   enough : alphaOf e ≤ p .«total_buckets»
   enough =
-      let f = length-facts n e (p .«special_len») (m .special .holds) in
+      let f = length-facts n e (p .«special_len») (d .largest .holds) in
       let l : alphaOf e ≤ (n - p .«special_len») / betaOf e = buckets-enough n (p .«special_len») (alphaOf e) (betaOf e) (omega (arith, i .exponent)) (omega (arith, f .main)) (omega (arith, f .main)) in
-      omega (arith, m .is-total)
+      omega (arith, d .is-main)
 
   size : length cs ≡ 118
   size =
       let a : length (take (alphaOf e) cs) ≡ alphaOf e = counts-length (p .«total_buckets») (alphaOf e) (take (alphaOf e) cs) (c .counts) in
       let b : length (drop (alphaOf e) cs) ≡ 118 - alphaOf e = ap length (c .after) ∙ length-replicate {A = ℕ} (118 - alphaOf e) 0 in
-      let d : length (take (alphaOf e) cs ++ drop (alphaOf e) cs) ≡ length cs = ap length (take-append-drop (alphaOf e) cs) in
+      let f : length (take (alphaOf e) cs ++ drop (alphaOf e) cs) ≡ length cs = ap length (take-append-drop (alphaOf e) cs) in
       omega (arith, length-append (take (alphaOf e) cs) (drop (alphaOf e) cs), e-top)
 
   pub plan-facts : PlanFacts n e p cs
   plan-facts =
-      let f = length-facts n e (p .«special_len») (m .special .holds) in
+      let f = length-facts n e (p .«special_len») (d .largest .holds) in
       let g = loglog-facts n (i .configured .most) in
       let a = m .is-alpha in
       let b = m .is-beta in
@@ -103,7 +105,7 @@ module _ {n e : ℕ} {p : FunnelPlan} {cs : List ℕ} (i : IsPlan n e p cs) wher
         special-most = omega (arith, f .main);
         special-least = omega (arith, f .least);
         special-parts = omega arith;
-        primary-some = omega (arith, m .special .holds .some);
+        primary-some = omega (arith, d .largest .holds .some);
         fallback-is = y;
         fallback-some = half-some;
         fallback-fill = rw (w, y) half-whole;
@@ -134,9 +136,9 @@ module _ {n e : ℕ} {p : FunnelPlan} {cs : List ℕ} (i : IsPlan n e p cs) wher
   pub count-after : (k : ℕ) → p .alpha ≤ k → k < 118 → getD cs k 0 ≡ 0
   count-after k h l =
       let a = m .is-alpha in
-      let d : alphaOf e + (k - alphaOf e) ≡ k = omega arith in
+      let f : alphaOf e + (k - alphaOf e) ≡ k = omega arith in
       let r : getD (drop (alphaOf e) cs) (k - alphaOf e) 0 ≡ 0 = rw (c .after) (getD-replicate {A = ℕ} (118 - alphaOf e) (k - alphaOf e) 0 0 (omega arith)) in
-      let q : getD (drop (alphaOf e) cs) (k - alphaOf e) 0 ≡ getD cs k 0 = getD-drop (alphaOf e) cs (k - alphaOf e) 0 ∙ ap (λ (x : ℕ). getD cs x 0) d in
+      let q : getD (drop (alphaOf e) cs) (k - alphaOf e) 0 ≡ getD cs k 0 = getD-drop (alphaOf e) cs (k - alphaOf e) 0 ∙ ap (λ (x : ℕ). getD cs x 0) f in
       sym q ∙ r
 
   -- a level ends at or before the special part
@@ -163,7 +165,7 @@ plan-eq p q a b d f g h i j k l o = cc (plan-made p, plan-made q)
 -- at most one plan
 pub plan-unique : {n e : ℕ} {p q : FunnelPlan} {cs ds : List ℕ} → IsPlan n e p cs → IsPlan n e q ds → (p ≡ q) × (cs ≡ ds)
 plan-unique {n} {e} {p} {q} {cs} {ds} i j =
-    (plan-eq p q (a .is-maximum ∙ sym (b .is-maximum)) (a .is-alpha ∙ sym (b .is-alpha)) (a .is-beta ∙ sym (b .is-beta)) (a .is-loglog ∙ sym (b .is-loglog)) (a .is-width ∙ sym (b .is-width)) s (omega (arith, a .is-primary, b .is-primary, s)) (omega (arith, a .is-fallback, b .is-fallback, s)) (a .is-buckets ∙ ap (λ (x : ℕ). x / 2 / (2 * loglog n)) s ∙ sym (b .is-buckets)) t (i .levels .is-first ∙ ap (λ (l : List ℕ). getD l 0 0) lists ∙ sym (j .levels .is-first)), lists)
+    (plan-eq p q (a .is-maximum ∙ sym (b .is-maximum)) (a .is-alpha ∙ sym (b .is-alpha)) (a .is-beta ∙ sym (b .is-beta)) (a .is-loglog ∙ sym (b .is-loglog)) (a .is-width ∙ sym (b .is-width)) s (omega (arith, a .is-primary, b .is-primary, s)) (omega (arith, a .is-fallback, b .is-fallback, s)) (i .special .is-half ∙ ap (λ (x : ℕ). x / 2 / (2 * loglog n)) s ∙ sym (j .special .is-half)) t (i .levels .is-first ∙ ap (λ (l : List ℕ). getD l 0 0) lists ∙ sym (j .levels .is-first)), lists)
   where
     a : PlanNumbers n e p
     a = i .numbers
@@ -172,10 +174,10 @@ plan-unique {n} {e} {p} {q} {cs} {ds} i j =
     b = j .numbers
 
     s : p .«special_len» ≡ q .«special_len»
-    s = largest-one (a .special) (b .special)
+    s = largest-one (i .special .largest) (j .special .largest)
 
     t : p .«total_buckets» ≡ q .«total_buckets»
-    t = a .is-total ∙ ap (λ (x : ℕ). (n - x) / betaOf e) s ∙ sym (b .is-total)
+    t = i .special .is-main ∙ ap (λ (x : ℕ). (n - x) / betaOf e) s ∙ sym (j .special .is-main)
 
     front : take (alphaOf e) cs ≡ take (alphaOf e) ds
     front =

@@ -1,13 +1,13 @@
 -- Laws of counts that callers use: how many, their sum, positive, not rising; and the starts of levels. Assumes nothing.
-use mathlib.Core.Path.{_≡_, refl, sym, ap, _∙_}
-use mathlib.Core.List.{List, [], _∷_, _++_}
-use Prim.Native.Nat.{ℕ, zero, suc, _+_, _-_, _*_, _≤_, _<_}
-use native.Mathlib.Nat.{add-mul, mul-le-mul-right, mul-lt-mul-of-pos-right, lt-of-not-le}
+use mathlib.Core.Path.{_≡_, ap, _∙_}
+use mathlib.Core.List.{List, [], _∷_}
+use Prim.Native.Nat.{ℕ, zero, suc, _+_, _*_, _≤_, _<_}
+use native.Mathlib.Nat.{add-mul, mul-le-mul-right, lt-of-not-le}
 use native.Mathlib.Decide.{decLe}
 use native.Mathlib.Numerals.{add-one}
 use native.Mathlib.Omega.{arith}
-use lib.ListN.{length, take, drop, getD}
-use Rattle.geometry.specs.Counts.{low, high, lowSum, highSum, Counts, total}
+use lib.ListN.{length, take, getD}
+use Rattle.geometry.specs.Counts.{Counts, total}
 use Rattle.geometry.specs.Chain.{Steps}
 use Rattle.geometry.specs.ChainLaws.{first-tests, test-of-counts}
 use Rattle.geometry.specs.CountsExist.{reach-pos}

@@ -25,3 +25,8 @@ pub mod Funnel
 pub mod FunnelLaws
 pub mod FunnelExist
 pub mod FunnelGate
+pub mod FunnelGateLaws
+pub mod ZeroLaws
+pub mod FunnelTestLaws
+pub mod PartLaws
+pub mod FunnelCases

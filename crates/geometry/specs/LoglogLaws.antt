@@ -1,6 +1,6 @@
 -- Laws of g, the logarithm of the logarithm: from 1 to 5, and below 5 only for few slots. Assumes nothing.
-use mathlib.Core.Path.{_≡_, sym, subst}
-use Prim.Native.Nat.{ℕ, zero, suc, _+_, _-_, _^_, _≤_, _<_, max}
+use mathlib.Core.Path.{_≡_, subst}
+use Prim.Native.Nat.{ℕ, zero, suc, _-_, _^_, _≤_, max}
 use native.Mathlib.Omega.{arith}
 use native.Mathlib.Numerals.{add-one}
 use lib.Pow.{pow-mono}
@@ -45,3 +45,11 @@ loglog-facts n h = record { least = omega arith; most = omega (arith, b-most); f
         let k : ceilLog2 n ≤ 16 = omega (arith, b .covers) in
         let l : 2 ^ ceilLog2 n ≤ 65536 = pow-mono k in
         omega (arith, a .covers)
+
+-- g by two logarithms
+pub loglog-by : (n a b : ℕ) → n ≤ 2 ^ 64 → a ≤ 2 ^ 64 → CeilLog2 n a → CeilLog2 a b → loglog n ≡ max 1 b
+unfolding loglog
+loglog-by n a b h l p q =
+    let x : a ≡ ceilLog2 n = log-computed n a h p in
+    let y : b ≡ ceilLog2 a = log-computed a b l q in
+    rw (y, x)

@@ -1,128 +1,117 @@
--- The period of the special lengths, by the greatest common divisor. Assumes nothing.
-use mathlib.Core.Path.{_≡_, sym, ap, subst}
-use Prim.Native.Nat.{ℕ, zero, suc, _+_, _-_, _*_, _/_, _%_, _≤_, _<_, _∣_}
-use native.Mathlib.Nat.{div-lt-iff-lt-mul, dvd-of-mod-eq-zero, le-antisymm, dvd-refl, dvd-zero, dvd-sub, dvd-mod-iff, dvd-mul-left, dvd-mul-right, dvd-mul-right-of-dvd, mod-eq-zero-of-dvd, div-add-mod, le-of-dvd, mul-comm, mul-assoc, mul-add, one-mul, mod-lt, mul-dvd-mul-left, dvd-of-mul-dvd-mul-right, pos-of-dvd-of-pos}
+-- The period of the special lengths, as the first meeting of two rows of multiples, and the test of a length by it. Assumes nothing.
+use mathlib.Core.Path.{_≡_, sym, ap, subst, _∙_}
+use Prim.Native.Nat.{ℕ, _+_, _-_, _*_, _/_, _≤_, _<_, _∣_}
+use native.Mathlib.Nat.{lt-of-not-le, dvd-refl, dvd-add, dvd-sub, dvd-mul-left, dvd-mul-right, le-of-dvd, one-mul, add-mul, mul-le-mul, mul-le-mul-left, mul-le-mul-right, mul-div-cancel, mul-one, div-mul-cancel}
+use native.Mathlib.Decide.{decLe}
 use native.Mathlib.Omega.{arith}
-use Rattle.geometry.specs.Extreme.{IsLargest}
-use Rattle.geometry.specs.Special.{Special, Common}
-use Rattle.geometry.specs.SpecialLaws.{IsPeriod, largest-if, largest-only}
+use Rattle.geometry.specs.Special.{IsPeriod, Measured}
+use Rattle.geometry.specs.SpecialLaws.{largest-if, largest-only}
 
--- what Euclid's steps keep: the common divisors, and what divides a multiple of both divides that multiple of d
-pub record Euclid (a b d : ℕ) : Type 0 where
-  pub common : Common a b d
-  pub scaled : (m j : ℕ) → m ∣ j * a → m ∣ j * b → m ∣ j * d
+-- a is k times h, b a multiple of w, and no number of buckets below k will do, nor one whose halves stay below b
+pub record Meeting (h w k a b : ℕ) : Type 0 where
+  pub some : 0 < k
+  pub is-a : a ≡ k * h
+  pub is-b : w ∣ b
+  pub least : (j : ℕ) → 0 < j → w ∣ j * h → k ≤ j
+  pub past : (j : ℕ) → 0 < j → w ∣ j * h → b ≤ j * h
 
-pub euclid-end : (a : ℕ) → Euclid a 0 a
-euclid-end a = record { common = record { left = dvd-refl a; right = dvd-zero a }; scaled = λ m j p q. p }
-
-pub euclid-step : (a b d : ℕ) → Euclid b (a % b) d → Euclid a b d
-euclid-step a b d e =
-    record {
-      common = record { left = dvd-mod-iff d {m = a} (e .common .left) .0 (e .common .right); right = e .common .left };
-      scaled = λ m j p q. e .scaled m j q (scaled-rest m j p q);
-    }
+less-of-mul : (k j h : ℕ) → k * h < j * h → k < j
+less-of-mul k j h l = go (decLe j k)
   where
-    scaled-rest : (m j : ℕ) → m ∣ j * a → m ∣ j * b → m ∣ j * (a % b)
-    scaled-rest m j p q =
-        let f : j * (b * (a / b) + a % b) ≡ j * a = ap (λ (i : ℕ). j * i) (div-add-mod a b) in
-        let g : j * (b * (a / b) + a % b) ≡ j * (b * (a / b)) + j * (a % b) = mul-add j (b * (a / b)) (a % b) in
-        let k : j * b * (a / b) ≡ j * (b * (a / b)) = mul-assoc j b (a / b) in
-        let x : j * (a % b) ≡ j * a - j * b * (a / b) = omega arith in
-        rw x (dvd-sub m p (dvd-mul-right-of-dvd m q (a / b)))
+    go : Dec (j ≤ k) → k < j
+    go (yes p) = let m = mul-le-mul-right h p in absurd (omega arith)
+    go (no q) = lt-of-not-le q
 
-pub gcd-exists : (fuel a b : ℕ) → b ≤ fuel → (d : ℕ) × Euclid a b d
-gcd-exists zero a b h = let e : 0 ≡ b = omega arith in (a, subst (λ (i : ℕ). Euclid a i a) e (euclid-end a))
-gcd-exists (suc fuel) a b h = go b h (gcd-exists fuel)
-  where
-    go : (b : ℕ) → b ≤ suc fuel → ((a b : ℕ) → b ≤ fuel → (d : ℕ) × Euclid a b d) → (d : ℕ) × Euclid a b d
-    go zero h f = (a, euclid-end a)
-    go (suc b) h f = let r = f (suc b) (a % suc b) (omega (arith, mod-lt a {m = suc b} (omega arith))) in (r .0, euclid-step a (suc b) (r .0) (r .1))
+mul-pos : (j h : ℕ) → 0 < j → 0 < h → 0 < j * h
+mul-pos j h p q = let m : 1 * h ≤ j * h = mul-le-mul-right h p in omega (arith, one-mul h)
 
--- the greatest common divisor has those properties
-pub gcd-euclid : (a b d : ℕ) → 0 < b → IsLargest (Common a b) d → Euclid a b d
-gcd-euclid a b d pos l = go (gcd-exists b a b (omega arith))
-  where
-    go : (d' : ℕ) × Euclid a b d' → Euclid a b d
-    go r =
-        let e = r .1 in
-        let up = l .above (r .0) (e .common) in
-        let o : 0 < r .0 = pos-of-dvd-of-pos (e .common .right) pos in
-        let one-a : d ∣ 1 * a = rw (one-mul a) (l .holds .left) in
-        let one-b : d ∣ 1 * b = rw (one-mul b) (l .holds .right) in
-        let dv : d ∣ r .0 = rw (one-mul (r .0)) at (e .scaled d 1 one-a one-b) in
-        let down = le-of-dvd o dv in
-        let s : r .0 ≡ d = le-antisymm up down in
-        subst (λ (i : ℕ). Euclid a b i) s e
+pub meeting-start : (h w : ℕ) → 0 < h → Meeting h w 1 h w
+meeting-start h w p = record { some = omega arith; is-a = sym (one-mul h); is-b = dvd-refl w; least = λ j q d. q; past = λ j q d. le-of-dvd (mul-pos j h q p) d }
 
-pub euclid-gcd : (a b d : ℕ) → 0 < d → Euclid a b d → IsLargest (Common a b) d
-euclid-gcd a b d pos e =
-    record {
-      holds = e .common;
-      above = λ c k. le-of-dvd pos (rw (one-mul d) at (e .scaled c 1 (rw (one-mul a) (k .left)) (rw (one-mul b) (k .right))));
-    }
+module _ (h w k a b : ℕ) (m : Meeting h w k a b) where
+  pub meeting-a : a < b → Meeting h w (k + 1) (a + h) b
+  meeting-a l =
+      let i = m .is-a in
+      let e : (k + 1) * h ≡ k * h + 1 * h = add-mul k 1 h in
+      record {
+        some = omega arith;
+        is-a = omega (arith, one-mul h);
+        is-b = m .is-b;
+        least = λ j q d. let x : k < j = less-of-mul k j h (omega (arith, m .past j q d)) in omega arith;
+        past = m .past;
+      }
 
--- the period
-pub period-is : (h w d : ℕ) → 0 < w → IsLargest (Common h w) d → IsPeriod h w (w / d)
+  pub meeting-b : b < a → Meeting h w k a (b + w)
+  meeting-b l =
+      let i = m .is-a in
+      record {
+        some = m .some;
+        is-a = i;
+        is-b = dvd-add-self (m .is-b);
+        least = m .least;
+        past = λ j q d. next j q d (mul-le-mul-right h (m .least j q d));
+      }
+    where
+      dvd-add-self : w ∣ b → w ∣ b + w
+      dvd-add-self d = dvd-add w d (dvd-refl w)
+
+      next : (j : ℕ) → 0 < j → w ∣ j * h → k * h ≤ j * h → b + w ≤ j * h
+      next j q d x =
+          let y = le-of-dvd (omega (arith, m .is-a)) (dvd-sub w d (m .is-b)) in
+          omega (arith, m .is-a)
+
+  pub meeting-end : a ≡ b → IsPeriod h w k
+  unfolding IsPeriod
+  meeting-end e = record { holds = (m .some, subst (λ (x : ℕ). w ∣ x) (sym e ∙ m .is-a) (m .is-b)); below = λ j p. m .least j (p .0) (p .1) }
+
+  -- the two rows meet at w times h, at the latest
+  pub meeting-within : 0 < w → (k ≤ w) × (b ≤ w * h) × (a ≤ w * h)
+  meeting-within p =
+      let x = m .least w p (dvd-mul-right w h) in
+      (x, m .past w p (dvd-mul-right w h), (let y = mul-le-mul-right h x in omega (arith, m .is-a)))
+
+pub rows-small : (h w : ℕ) → h ≤ 27 → w ≤ 10 → w * h ≤ 270
+rows-small h w p q = mul-le-mul {n₂ = 10} {m₂ = 27} q p
+
+pub period-within : (h w k : ℕ) → 0 < w → IsPeriod h w k → k ≤ w
 unfolding IsPeriod
-period-is h w d pos l =
-    record {
-      holds = (few, rw whole at (mul-dvd-mul-left d (w / d) (l .holds .left)));
-      below = λ j p. le-of-dvd (p .0) (dvd-of-mul-dvd-mul-right {k = d} (w / d) some (rw (← whole) at (e .scaled w j (p .1) (dvd-mul-left w j))));
-    }
-  where
-    e : Euclid h w d
-    e = gcd-euclid h w d pos l
+period-within h w k p g = g .below w (p, dvd-mul-right w h)
 
-    some : 0 < d
-    some = pos-of-dvd-of-pos (l .holds .right) pos
+pub product-small : (x y : ℕ) → x ≤ 4294967296 → y ≤ 54 → x * y ≤ 231928233984
+product-small x y p q = mul-le-mul {n₂ = 4294967296} {m₂ = 54} p q
 
-    whole : w / d * d ≡ w
-    whole = omega (arith, div-add-mod w d, mod-eq-zero-of-dvd d (l .holds .right), mul-comm (w / d) d)
+-- the tests of a length, one by one
+module _ (n lo hi h w s main half : ℕ) where
+  main-is : 0 < h → main * (2 * h) ≡ n - s → main ≡ (n - s) / (2 * h)
+  main-is p e = sym (mul-div-cancel main {n = 2 * h} (omega arith)) ∙ ap (λ (x : ℕ). x / (2 * h)) e
 
-    few : 0 < w / d
-    few = pos-of-dvd-of-pos (rw whole at (dvd-mul-right (w / d) d)) pos
+  half-is : 0 < w → half * w ≡ s / 2 → half ≡ s / 2 / w
+  half-is p e = sym (mul-div-cancel half {n = w} p) ∙ ap (λ (x : ℕ). x / w) e
 
--- the test of a special length: it is the largest exactly where one period more is past the range
-module _ (n lo hi h w d s : ℕ) (within : hi ≤ n) (pos : 0 < h) (wide : 0 < w) (g : IsLargest (Common h w) d) (p : Special n lo hi (2 * h) w s) where
-  pub special-largest : hi < s + w / d * (2 * h) → IsLargest (Special n lo hi (2 * h) w) s
-  special-largest = largest-if n lo hi h w within pos s (w / d) p (period-is h w d wide g)
+  pub measured-main : Measured n lo hi (2 * h) w s main half → main * (2 * h) ≡ n - s
+  measured-main d = ap (λ (x : ℕ). x * (2 * h)) (d .is-main) ∙ div-mul-cancel (2 * h) (d .largest .holds .main)
 
-  pub largest-special : IsLargest (Special n lo hi (2 * h) w) s → hi < s + w / d * (2 * h)
-  largest-special = largest-only n lo hi h w within pos s (w / d) p (period-is h w d wide g)
+  pub measured-half : Measured n lo hi (2 * h) w s main half → half * w ≡ s / 2
+  measured-half d = ap (λ (x : ℕ). x * w) (d .is-half) ∙ div-mul-cancel w (d .largest .holds .fallback)
 
--- Euclid's steps: the whole from what is left
-pub record Left (a b x y : ℕ) : Type 0 where
-  pub whole : (d : ℕ) → Euclid x y d → Euclid a b d
+  le-product : (x y : ℕ) → 0 < y → x ≤ x * y
+  le-product x y p = let m = mul-le-mul-left x p in omega (arith, mul-one x)
 
-pub left-none : (a b : ℕ) → Left a b a b
-left-none a b = record { whole = λ d e. e }
+  pub measured-most : 0 < h → 0 < w → hi ≤ n → Measured n lo hi (2 * h) w s main half → (main ≤ n) × (half ≤ n)
+  measured-most p q l d = (omega (arith, measured-main d, le-product main (2 * h) (omega arith)), omega (arith, measured-half d, le-product half w q, d .largest .holds .to))
 
-pub left-more : (a b x y : ℕ) → Left a b x y → Left a b y (x % y)
-left-more a b x y l = record { whole = λ d e. l .whole d (euclid-step x y d e) }
+  module _ (k : ℕ) (p : 0 < h) (q : 0 < w) (l : hi ≤ n) (g : IsPeriod h w k) where
+    pub measured-past : s ≤ hi → k * (2 * h) ≤ hi - s → Measured n lo hi (2 * h) w s main half → ⊥
+    measured-past t f d = omega (arith, largest-only n lo hi h w l p s k (d .largest .holds) g (d .largest))
 
-pub left-end : (a b x y : ℕ) → 0 < b → y ≡ 0 → Left a b x y → IsLargest (Common a b) x
-left-end a b x y pos z l =
-    let e : Euclid a b x = l .whole x (subst (λ (i : ℕ). Euclid x i x) (sym z) (euclid-end x)) in
-    euclid-gcd a b x (pos-of-dvd-of-pos (e .common .right) pos) e
-
--- the tests, one by one
-module _ (n lo hi h w s : ℕ) where
-  pub not-main : ((n - s) % (2 * h) ≡ 0 → ⊥) → IsLargest (Special n lo hi (2 * h) w) s → ⊥
-  not-main f l = f (mod-eq-zero-of-dvd (2 * h) (l .holds .main))
-
-  pub not-fallback : (s / 2 % w ≡ 0 → ⊥) → IsLargest (Special n lo hi (2 * h) w) s → ⊥
-  not-fallback f l = f (mod-eq-zero-of-dvd w (l .holds .fallback))
-
-  module _ (d : ℕ) (within : hi ≤ n) (pos : 0 < h) (wide : 0 < w) (g : IsLargest (Common h w) d) (to : s ≤ hi) where
-    pub not-largest : w / d ≤ (hi - s) / (2 * h) → IsLargest (Special n lo hi (2 * h) w) s → ⊥
-    not-largest f l =
-        let p = largest-special n lo hi h w d s within pos wide g (l .holds) l in
-        let m : (hi - s) / (2 * h) < w / d = div-lt-iff-lt-mul {k = 2 * h} (omega arith) .1 (omega arith) in
-        omega arith
-
-    pub is-largest : lo ≤ s → 2 ≤ lo → (n - s) % (2 * h) ≡ 0 → s / 2 % w ≡ 0 → (hi - s) / (2 * h) < w / d → IsLargest (Special n lo hi (2 * h) w) s
-    is-largest from two a b f =
-        let m : hi - s < w / d * (2 * h) = div-lt-iff-lt-mul {k = 2 * h} (omega arith) .0 f in
-        special-largest n lo hi h w d s within pos wide g
-        (record { from = from; to = to; main = dvd-of-mod-eq-zero (2 * h) a; fallback = dvd-of-mod-eq-zero w b; some = omega arith })
-        (omega arith)
+    pub measured : 2 ≤ lo → lo ≤ s → s ≤ hi → main * (2 * h) ≡ n - s → half * w ≡ s / 2 → hi - s < k * (2 * h) → Measured n lo hi (2 * h) w s main half
+    measured two a b x y f =
+        record {
+          largest =
+              largest-if n lo hi h w l p s k
+              (record { from = a; to = b; main = subst (λ (z : ℕ). 2 * h ∣ z) x (dvd-mul-left (2 * h) main); fallback = subst (λ (z : ℕ). w ∣ z) y (dvd-mul-left w half); some = omega arith })
+              g
+              (omega arith);
+          is-main = main-is p x;
+          is-half = half-is q y;
+        }

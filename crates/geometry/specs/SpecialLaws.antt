@@ -4,8 +4,8 @@ use Prim.Native.Nat.{ℕ, zero, suc, _+_, _-_, _*_, _/_, _%_, _≤_, _<_, _∣_}
 use native.Mathlib.Nat.{lt-of-not-le, le-div-iff-mul-le, zero-mul, dvd-refl, dvd-add, dvd-add-iff-right, dvd-sub, dvd-mul-left, dvd-mul-right, mod-eq-zero-of-dvd, dvd-of-mod-eq-zero, div-add-mod, le-of-dvd, mul-left-comm, mul-comm, mul-le-mul-right, mod-lt, mod-le, add-mul}
 use native.Mathlib.Decide.{decLe}
 use native.Mathlib.Omega.{arith}
-use Rattle.geometry.specs.Extreme.{IsLargest, IsSmallest}
-use Rattle.geometry.specs.Special.{Special, Found, Below}
+use Rattle.geometry.specs.Extreme.{IsLargest}
+use Rattle.geometry.specs.Special.{Special, Found, Below, IsPeriod}
 
 -- beta is 2 * h; k times beta more is k times h more in the half
 twice : (h k : ℕ) → k * (2 * h) ≡ 2 * (k * h)
@@ -21,10 +21,6 @@ factor-pos (suc k) m l = omega arith
 -- a multiple that is not 0 is at least as large
 pub multiple-le : (m d : ℕ) → m ∣ d → 0 < d → m ≤ d
 multiple-le m d p l = le-of-dvd l p
-
--- the smallest number of buckets whose half w divides
-unfoldable pub IsPeriod : (h w k : ℕ) → Type 0
-IsPeriod h w k = IsSmallest (λ j. (0 < j) × (w ∣ j * h)) k
 
 module _ (n lo hi h w : ℕ) (within : hi ≤ n) (pos : 0 < h) where
   -- further up by a number of buckets whose half w divides

@@ -8,7 +8,7 @@ use lib.ListN.{length, take, drop, getD, length-take, length-drop}
 use lib.Seq.{drop-cons, drop-length, getD-take}
 use Rattle.geometry.specs.Says.{Says}
 use Rattle.geometry.specs.SaysLaws.{says-true, says-false}
-use Rattle.geometry.specs.Counts.{low, high, lowSum, highSum, Counts, total}
+use Rattle.geometry.specs.Counts.{low, high, lowSum, Counts, total}
 use Rattle.geometry.specs.Chain.{Steps, Tight, Step, Good, Chain, FirstStep}
 use Rattle.geometry.specs.ChainLaws.{Lowest, lowest-past, counts-of-test, test-of-counts}
 

@@ -3,12 +3,12 @@
 ghost use mathlib.Core.Path.{_≡_};
 ghost use Prim.Native.Nat.{ℕ, _<_, _≤_};
 ghost use lib.Dec.{leb};
-ghost use lib.ListN.{length};
+ghost use lib.ListN.{length, replicate};
 ghost use Rattle.geometry.specs.Extreme.{IsLargest, IsSmallest};
 ghost use Rattle.geometry.specs.Counts.{low, high, lowSum, highSum, Follows, First};
 ghost use Rattle.geometry.specs.Filled.{Fits, Filled};
 
-// The counts of the levels, for at least as many buckets, at the front of a slice; the entries behind them become 0.
+// The counts of the levels, for at least as many buckets, at the front of a slice.
 pub fn fill_counts(t: u64, levels: usize, counts: &mut [u64])
     requires { ⌜ (0 < levels) × (levels ≤ length (now counts)) × (levels ≤ t) ⌝ }
     ensures { λ r. ⌜ Filled t levels (now (counts .entry)) (now (counts .exit)) ⌝ }
@@ -27,29 +27,28 @@ pub fn fill_counts(t: u64, levels: usize, counts: &mut [u64])
     }
 }
 
-// The first count: a quarter of the buckets, rounded, between its two bounds.
+// The first count: a quarter of the buckets, rounded, between its two bounds. The quarter's own paths tell whether it
+// serves, and else on which side of it the bound lies.
 fn nearest_feasible_first_count(t: u64, levels: usize) -> u64
     requires { ⌜ (0 < levels) × (levels ≤ t) ⌝ }
     ensures { λ r. ⌜ First t levels r ⌝ }
 {
     let q = t / 4 + t % 4 / 3;
-    let lo = smallest_reaching(t, levels);
-    let hi = largest_within(t, levels);
-    if q < lo {
-        lo
-    } else if hi < q {
-        hi
-    } else {
-        q
+    if maximum_path_sum_at_least(q, levels, t) {
+        if minimum_path_sum_at_most(q, levels, t) {
+            return q;
+        }
+        return largest_within(t, levels, q);
     }
+    smallest_reaching(t, levels, q)
 }
 
-// The smallest count whose largest path reaches t.
-fn smallest_reaching(t: u64, levels: usize) -> u64
-    requires { ⌜ (0 < levels) × (0 < t) ⌝ }
+// The smallest count whose largest path reaches t; that of q does not.
+fn smallest_reaching(t: u64, levels: usize, q: u64) -> u64
+    requires { ⌜ (0 < levels) × (highSum q levels < t) ⌝ }
     ensures { λ r. ⌜ IsSmallest (λ y. t ≤ highSum y levels) r ⌝ }
 {
-    let mut lo = 1;
+    let mut lo = q + 1;
     let mut hi = t;
     while lo < hi {
         let mid = lo + (hi - lo) / 2;
@@ -62,13 +61,13 @@ fn smallest_reaching(t: u64, levels: usize) -> u64
     lo
 }
 
-// The largest count whose smallest path stays within t.
-fn largest_within(t: u64, levels: usize) -> u64
-    requires { ⌜ (0 < levels) × (levels ≤ t) ⌝ }
+// The largest count whose smallest path stays within t; that of q does not.
+fn largest_within(t: u64, levels: usize, q: u64) -> u64
+    requires { ⌜ (0 < levels) × (levels ≤ t) × (t < lowSum q levels) × (q ≤ t) ⌝ }
     ensures { λ r. ⌜ IsLargest (λ y. lowSum y levels ≤ t) r ⌝ }
 {
     let mut lo = 1;
-    let mut hi = t;
+    let mut hi = q - 1;
     while lo < hi {
         let mid = hi - (hi - lo) / 2;
         if minimum_path_sum_at_most(mid, levels, t) {
@@ -148,4 +147,15 @@ pub fn maximum_next_bucket_count(x: u64) -> u64
         return 0;
     }
     x - x / 4 - (x % 4 + 3) / 4 + 1
+}
+
+// All entries become 0.
+pub fn clear(counts: &mut [u64])
+    ensures { λ r. ⌜ now (counts .exit) ≡ replicate (length (now (counts .entry))) 0 ⌝ }
+{
+    let mut i = 0;
+    while i < counts.len() {
+        counts[i] = 0;
+        i += 1;
+    }
 }

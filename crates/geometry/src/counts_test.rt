@@ -1,18 +1,57 @@
 // Whether given counts are those of a funnel's levels, by one walk from their end, with the same truth as computing them.
 ghost use mathlib.Core.Path.{_≡_};
 ghost use mathlib.Core.Bool.{true, false};
-ghost use Prim.Native.Nat.{ℕ, _+_, _<_, _≤_};
-ghost use lib.ListN.{length, take};
+ghost use Prim.Native.Nat.{ℕ, _+_, _-_, _<_, _≤_, min};
+ghost use lib.ListN.{length, take, drop, replicate};
 ghost use Rattle.geometry.specs.Says.{Says};
 ghost use Rattle.geometry.specs.Counts.{low, lowSum, Counts};
+ghost use Rattle.geometry.specs.Funnel.{PlanCounts};
 ghost use Rattle.geometry.specs.Chain.{Step, Chain, FirstStep};
 use crate::counts::maximum_next_bucket_count;
 use crate::counts::maximum_path_sum_at_least;
 use crate::counts::minimum_next_bucket_count;
 use crate::counts::minimum_path_sum_at_most;
 
+// Whether the counts in front are those of t buckets over the levels, the first as given, and the entries behind them 0.
+pub fn plan_counts_hold(t: u64, levels: usize, first: u64, counts: &[u64; 118]) -> bool
+    requires { ⌜ (0 < levels) × (levels ≤ 118) ⌝ }
+    ensures { λ r. ⌜ Says r (PlanCounts t levels first (now (counts .entry))) ⌝ }
+{
+    if counts[0] != first {
+        return false;
+    }
+    if zero_from(counts, levels) {
+        return counts_hold(t, levels, counts);
+    }
+    false
+}
+
+// Whether the entries from one on are 0. It reads them all, so that the compiler reads several at once.
+fn zero_from(counts: &[u64], from: usize) -> bool
+    requires { ⌜ from ≤ length (now counts) ⌝ }
+    ensures { λ r. ⌜ Says r (drop from (now (counts .entry)) ≡ replicate (length (now (counts .entry)) - from) 0) ⌝ }
+{
+    let mut others = 0;
+    let mut i = from;
+    while i < counts.len() {
+        others += one_unless_zero(counts[i]);
+        i += 1;
+    }
+    if others == 0 {
+        return true;
+    }
+    false
+}
+
+// 0 of 0, else 1.
+fn one_unless_zero(x: u64) -> u64
+    ensures { λ r. ⌜ r ≡ min 1 x ⌝ }
+{
+    if x == 0 { 0 } else { 1 }
+}
+
 // Whether the counts in front are those of t buckets over the levels.
-pub fn counts_hold(t: u64, levels: usize, counts: &[u64]) -> bool
+fn counts_hold(t: u64, levels: usize, counts: &[u64]) -> bool
     requires { ⌜ (0 < levels) × (levels ≤ length (now counts)) ⌝ }
     ensures { λ r. ⌜ Says r (Counts t levels (take levels (now (counts .entry)))) ⌝ }
 {

@@ -1,15 +1,61 @@
-// The special length of a funnel: found from the top of its range, and tested by its period.
-// Carries `largest_compatible_special_layout` and `greatest_common_divisor` of the Rust.
+// The special length of a funnel: its bounds, the search from the top of its range, and a test by its period.
+// Carries `largest_compatible_special_layout` and `base_two_loglog_ceiling` of the Rust.
 ghost use mathlib.Core.Path.{_≡_};
-ghost use Prim.Native.Nat.{ℕ, _*_, _<_, _≤_, _^_};
+ghost use Prim.Native.Nat.{ℕ, _*_, _<_, _≤_};
 ghost use Rattle.geometry.specs.Says.{Says};
-ghost use Rattle.geometry.specs.Extreme.{IsLargest};
-ghost use Rattle.geometry.specs.Special.{Special, Found, Below, Common};
+ghost use Rattle.geometry.specs.Special.{Below, Found, FoundFor, IsPeriod, Measured, SpecialMeasured, loglog, specialLeast, specialMost};
+use words::power::ceil_div_pow2;
+use words::power::ceil_log2;
+use words::power::floor_div_pow2;
+
+// The special length of n and e; 0 where there is none. Above 27 there is none: two fallback buckets are too many.
+pub fn special_len_of(n: u64, e: u64) -> u64
+    requires { ⌜ (n ≤ 4294967296) × (3 ≤ e) ⌝ }
+    ensures { λ r. ⌜ FoundFor n e r ⌝ }
+{
+    if 27 < e {
+        return 0;
+    }
+    let g = base_two_loglog_ceiling(n);
+    let lo = special_least(n, e, g);
+    let hi = special_most(n, e);
+    largest_special_length(n, lo, hi, e, 2 * g)
+}
+
+// g = ceil(log2(ceil(log2 n))), at least 1.
+pub fn base_two_loglog_ceiling(n: u64) -> u64
+    ensures { λ r. ⌜ r ≡ loglog n ⌝ }
+{
+    let g = ceil_log2(ceil_log2(n));
+    if g == 0 { 1 } else { g }
+}
+
+// The lower bound, by g.
+fn special_least(n: u64, e: u64, g: u64) -> u64
+    requires { ⌜ (e ≤ 27) × (g ≤ 5) × (g ≡ loglog n) ⌝ }
+    ensures { λ r. ⌜ r ≡ specialLeast n e ⌝ }
+{
+    let part = ceil_div_pow2(n, e + 1);
+    if part < 4 * g { 4 * g } else { part }
+}
+
+// The upper bound.
+fn special_most(n: u64, e: u64) -> u64
+    requires { ⌜ (n ≤ 4294967296) × (e ≤ 27) ⌝ }
+    ensures { λ r. ⌜ r ≡ specialMost n e ⌝ }
+{
+    let part = floor_div_pow2(3 * n, e + 2);
+    let main = (4 * e + 10) * (2 * e);
+    if n < main {
+        return 0;
+    }
+    if part < n - main { part } else { n - main }
+}
 
 // The largest length of the range that leaves whole buckets of 2 * h, and has a half of whole buckets of w; 0 where there
 // is none.
-pub fn largest_special_length(n: u64, lo: u64, hi: u64, h: u64, w: u64) -> u64
-    requires { ⌜ (hi ≤ n) × (0 < h) × (h < 2 ^ 63) × (0 < w) × (2 ≤ lo) ⌝ }
+fn largest_special_length(n: u64, lo: u64, hi: u64, h: u64, w: u64) -> u64
+    requires { ⌜ (hi ≤ n) × (0 < h) × (h ≤ 27) × (0 < w) × (2 ≤ lo) ⌝ }
     ensures { λ r. ⌜ Found n lo hi (2 * h) w r ⌝ }
 {
     let beta = 2 * h;
@@ -25,7 +71,7 @@ pub fn largest_special_length(n: u64, lo: u64, hi: u64, h: u64, w: u64) -> u64
 
 // The same from the largest length that leaves whole buckets down: w steps pass every residue.
 fn search_down(n: u64, lo: u64, hi: u64, h: u64, w: u64, top: u64) -> u64
-    requires { ⌜ (hi ≤ n) × (0 < h) × (h < 2 ^ 63) × (0 < w) × (2 ≤ lo) ⌝ }
+    requires { ⌜ (hi ≤ n) × (0 < h) × (h ≤ 27) × (0 < w) × (2 ≤ lo) ⌝ }
     requires { ⌜ Below n lo hi (2 * h) w top ⌝ }
     ensures { λ r. ⌜ Found n lo hi (2 * h) w r ⌝ }
 {
@@ -48,10 +94,21 @@ fn search_down(n: u64, lo: u64, hi: u64, h: u64, w: u64, top: u64) -> u64
     0
 }
 
-// Whether s is that length: in its range, of whole buckets, and one period more is past the range.
-pub fn special_holds(n: u64, lo: u64, hi: u64, h: u64, w: u64, s: u64) -> bool
-    requires { ⌜ (hi ≤ n) × (0 < h) × (h < 2 ^ 63) × (0 < w) × (2 ≤ lo) ⌝ }
-    ensures { λ r. ⌜ Says r (IsLargest (Special n lo hi (2 * h) w) s) ⌝ }
+// Whether s is the special length of n and e, with `main` buckets before it and `half` buckets in its fallback.
+pub fn special_parts_hold(n: u64, e: u64, g: u64, s: u64, main: u64, half: u64) -> bool
+    requires { ⌜ (n ≤ 4294967296) × (3 ≤ e) × (e ≤ 27) × (g ≡ loglog n) ⌝ }
+    ensures { λ r. ⌜ Says r (SpecialMeasured n e s main half) ⌝ }
+{
+    let lo = special_least(n, e, g);
+    let hi = special_most(n, e);
+    special_holds(n, lo, hi, e, 2 * g, s, main, half)
+}
+
+// Whether s is the largest of its range, with `main` buckets before it and `half` buckets in its fallback: it lies in its range, both
+// parts are filled, and one period more is past the range. Products stand where a division would.
+fn special_holds(n: u64, lo: u64, hi: u64, h: u64, w: u64, s: u64, main: u64, half: u64) -> bool
+    requires { ⌜ (hi ≤ n) × (n ≤ 4294967296) × (0 < h) × (h ≤ 27) × (0 < w) × (w ≤ 10) × (2 ≤ lo) ⌝ }
+    ensures { λ r. ⌜ Says r (Measured n lo hi (2 * h) w s main half) ⌝ }
 {
     if s < lo {
         return false;
@@ -59,34 +116,41 @@ pub fn special_holds(n: u64, lo: u64, hi: u64, h: u64, w: u64, s: u64) -> bool
     if hi < s {
         return false;
     }
+    if n < main {
+        return false;
+    }
+    if n < half {
+        return false;
+    }
     let beta = 2 * h;
-    let main = (n - s) % beta;
-    if main != 0 {
+    if main * beta != n - s {
         return false;
     }
-    let half = s / 2 % w;
-    if half != 0 {
+    if half * w != s / 2 {
         return false;
     }
-    let period = w / greatest_common_divisor(h, w);
-    let more = (hi - s) / beta;
-    if more < period {
+    let past = special_period(h, w) * beta;
+    if hi - s < past {
         return true;
     }
     false
 }
 
-// The greatest common divisor.
-fn greatest_common_divisor(a: u64, b: u64) -> u64
-    requires { ⌜ 0 < b ⌝ }
-    ensures { λ r. ⌜ IsLargest (Common a b) r ⌝ }
+// The smallest number of buckets whose halves fill buckets of w: where a multiple of h meets a multiple of w.
+fn special_period(h: u64, w: u64) -> u64
+    requires { ⌜ (0 < h) × (h ≤ 27) × (0 < w) × (w ≤ 10) ⌝ }
+    ensures { λ r. ⌜ IsPeriod h w r ⌝ }
 {
-    let mut x = a;
-    let mut y = b;
-    while 0 < y {
-        let r = x % y;
-        x = y;
-        y = r;
+    let mut k = 1;
+    let mut a = h;
+    let mut b = w;
+    while a != b {
+        if a < b {
+            a += h;
+            k += 1;
+        } else {
+            b += w;
+        }
     }
-    x
+    k
 }

@@ -101,12 +101,12 @@ fn answer(line: &[u8], length: usize, out: &mut [u8], at: usize) -> usize {
     if line.len() < length {
         return put(out, at, b"?\n");
     }
-    let to = answer_query(query(&line[..length]), out, at);
+    let to = answer_query(parse(&line[..length]), out, at);
     put_byte(out, to, b'\n')
 }
 
 // What a line asks: a letter, and two plain decimals behind single spaces.
-fn query(line: &[u8]) -> Query {
+fn parse(line: &[u8]) -> Query {
     if line.len() < 2 {
         return Query::Unknown;
     }
@@ -179,7 +179,13 @@ fn elastic(n: u64, e: u32, out: &mut [u8], at: usize) -> usize {
 }
 
 // length:quota for each level.
-fn put_levels(levels: u64, lengths: &[u64; 32], quotas: &[u64; 32], out: &mut [u8], at: usize) -> usize {
+fn put_levels(
+    levels: u64,
+    lengths: &[u64; 32],
+    quotas: &[u64; 32],
+    out: &mut [u8],
+    at: usize,
+) -> usize {
     put_pairs(out, at, levels, lengths, quotas)
 }
 

@@ -3,7 +3,6 @@ use mathlib.Core.List.{List, [], _∷_}
 use Prim.Native.Nat.{ℕ, zero, suc, _+_, _*_, _/_, _%_, _^_}
 use lib.Dec.{eqb, ltb, leb}
 use Rattle.refusal.specs.declared.Name.the-variants as name
-use Rattle.refusal.specs.declared.RangeRefusal.{RangeRefusal}
 use Rattle.refusal.specs.Table.{Report, answered, refused}
 use Rattle.probe.specs.Pick.{pick}
 use Rattle.probe.specs.Counter.{elasticCounterOf, levelOf, funnelCounterOf}

@@ -1,11 +1,10 @@
 -- Laws of the reduction: one word at a time, the bounds of a draw, and the answers of the bare reductions in turn. Assumes nothing.
 use mathlib.Core.Bool.{Bool, true, false}
-use mathlib.Core.List.{List, [], _∷_}
-use mathlib.Core.Path.{_≡_, refl, sym, ap, ap₂, subst, _∙_}
+use mathlib.Core.Path.{_≡_, refl, sym, ap, subst, _∙_}
 use Prim.Native.Nat.{ℕ, zero, suc, _+_, _-_, _*_, _/_, _%_, _^_, _≤_, _<_}
 use native.Mathlib.Nat.{mul-lt-mul-of-pos-right}
 use native.Mathlib.Omega.{arith}
-use lib.Dec.{eqb, ltb, leb}
+use lib.Dec.{leb}
 use lib.ListN.{length, getD}
 use borrow.Author.Tests.{eq-eqb, ne-eqb, lt-ltb, le-ltb, le-leb, lt-leb}
 use Rattle.refusal.specs.declared.RangeRefusal.{RangeRefusal}
@@ -17,6 +16,7 @@ use Rattle.probe.specs.Range.{wordsAt, allRejected, reduceOf, drawOf, el
 use Rattle.probe.specs.declared.counter.Domain.{Domain}
 use Rattle.probe.specs.declared.range.Drawn.{Drawn}
 use Rattle.probe.specs.declared.range.Drawn.the-variants.{Index, Refused}
+use Rattle.probe.specs.declared.range.Reduced.{Reduced}
 use Rattle.probe.specs.declared.range.Reduced.the-variants as reduced
 
 -- ---- the list of words
@@ -214,6 +214,12 @@ module _ (seed identity level probe u cap : ℕ) where
         unfolding elasticReduceOf
         elastic-drawn h = sym (rw (ne-eqb u 0 nu, lt-leb 32 level hl, lt-leb 8192 probe hp, le-ltb 8 cap h))
 
+        -- by the core
+        pub elastic-answer : cap ≤ 8 → (key base : ℕ) (d : Drawn) (r : Reduced) → key ≡ elasticKeyOf seed identity → base ≡ elasticCounterOf level probe 0
+            → d ≡ drawOf key key base u cap → r ≡ reducedOf d → r ≡ elasticReduceOf seed identity level probe u cap
+        elastic-answer h key base d r k b e f =
+            f ∙ ap reducedOf (e ∙ elastic-core seed identity level probe u cap key base k b) ∙ elastic-drawn h
+
 module _ (seed identity : ℕ) (domain : Domain) (probe u cap : ℕ) where
   pub funnel-upper : u ≡ 0 → reduced.Upper ≡ funnelReduceOf seed identity domain probe u cap
   unfolding funnelReduceOf
@@ -237,3 +243,10 @@ module _ (seed identity : ℕ) (domain : Domain) (probe u cap : ℕ) where
         pub funnel-drawn : cap ≤ 256 → reducedOf (funnelDrawOf seed identity domain probe u cap) ≡ funnelReduceOf seed identity domain probe u cap
         unfolding funnelReduceOf
         funnel-drawn h = sym (rw (ne-eqb u 0 nu, lt-leb (2 ^ 46) (levelOf domain) hl, lt-leb 256 probe hp, le-ltb 256 cap h))
+
+        -- by the core
+        pub funnel-answer : cap ≤ 256 → (inner outer base : ℕ) (d : Drawn) (r : Reduced)
+            → inner ≡ funnelInOf seed identity → outer ≡ funnelOutOf seed identity → base ≡ funnelCounterOf domain probe 0
+            → d ≡ drawOf inner outer base u cap → r ≡ reducedOf d → r ≡ funnelReduceOf seed identity domain probe u cap
+        funnel-answer h inner outer base d r i o b e f =
+            f ∙ ap reducedOf (e ∙ funnel-core seed identity domain probe u cap inner outer base i o b) ∙ funnel-drawn h

@@ -1,9 +1,16 @@
 -- No bias: for each index below u, the words that are accepted and give it are 2 ^ 64 / u consecutive ones, as many for one index as for another.
 -- Assumes nothing.
 use mathlib.Core.Path.{_≡_, refl, sym, ap, _∙_}
-use Prim.Native.Nat.{ℕ, zero, suc, _+_, _-_, _*_, _/_, _%_, _^_, _≤_, _<_}
+use Prim.Native.Nat.{ℕ, suc, _+_, _-_, _*_, _/_, _%_, _^_, _≤_, _<_}
 use native.Mathlib.Nat.{div-lt-iff-lt-mul, add-mul-div-left, div-add-mod, mod-lt, suc-mul, lt-of-not-le, not-le-of-lt, le-trans, le-of-eq}
 use native.Mathlib.Omega.{arith}
+use mathlib.Core.Bool.{Bool, true, false}
+use mathlib.Core.List.{[], _∷_}
+use lib.Dec.{leb}
+use borrow.Author.Tests.{le-leb, leb-true}
+use Rattle.probe.specs.Pick.{pick}
+use Rattle.probe.specs.Range.{reduceOf, allRejected}
+use Rattle.probe.specs.declared.range.Drawn.the-variants.{Index}
 
 -- a word that is accepted and gives the index i
 pub record Gives (u i w : ℕ) : Type 0 where
@@ -69,3 +76,17 @@ module _ (u i w : ℕ) (pos : 0 < u) (small : u ≤ 2 ^ 64) where
   -- all of them are words
   pub run-fits : i < u → first u i + 2 ^ 64 / u ≤ 2 ^ 64
   run-fits h = le-trans (le-of-eq (sym end)) (down u (i * 2 ^ 64 + 2 ^ 64) (2 ^ 64) pos (omega arith))
+
+-- ---- what a word gives is what the reduction makes of it
+
+pub gives-index : (u i w : ℕ) → Gives u i w → reduceOf (w ∷ []) u 0 ≡ Index i 1
+unfolding reduceOf
+gives-index u i w g = rw (le-leb (2 ^ 64 % u) (w * u % 2 ^ 64) (g .accepted), g .index)
+
+pub index-gives : (u i w : ℕ) → reduceOf (w ∷ []) u 0 ≡ Index i 1 → Gives u i w
+unfolding reduceOf
+index-gives u i w e = go (leb (2 ^ 64 % u) (w * u % 2 ^ 64)) refl e
+  where
+    go : (t : Bool) → leb (2 ^ 64 % u) (w * u % 2 ^ 64) ≡ t → pick t (Index (w * u / 2 ^ 64) 1) (allRejected 1) ≡ Index i 1 → Gives u i w
+    go true h f = record { accepted = leb-true (2 ^ 64 % u) (w * u % 2 ^ 64) h; index = cc }
+    go false h f = let z : _≡_ {A = ℕ} 0 1 = cc in absurd (omega arith)

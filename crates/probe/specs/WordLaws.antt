@@ -1,5 +1,5 @@
 -- Laws of keys and words. Assumes nothing.
-use mathlib.Core.Path.{_≡_, refl, sym, ap, _∙_}
+use mathlib.Core.Path.{_≡_, sym, ap, _∙_}
 use Prim.Native.Nat.{ℕ, _^_, _<_}
 use lib.Bits.{bitXor}
 use Rattle.probe.specs.Mix.{xor, mix64Of}

@@ -81,7 +81,7 @@ pub fn funnel_base(domain: Domain, probe: u64) -> u64
 }
 
 // Whether the level of a domain is below 2^46.
-pub fn domain_fits(domain: Domain) -> bool
+pub(crate) fn domain_fits(domain: Domain) -> bool
     ensures { λ r. ⌜ r ≡ ltb (levelOf domain) (2 ^ 46) ⌝ }
 {
     match domain {

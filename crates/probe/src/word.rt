@@ -41,7 +41,7 @@ pub fn funnel_key(seed: u64, identity: u64) -> FunnelKey
 }
 
 // "word = mix64(counter xor key) xor key" for the elastic table; the funnel's key is one number inside and one outside.
-pub fn keyed_word(inner: u64, outer: u64, counter: u64) -> u64
+pub(crate) fn keyed_word(inner: u64, outer: u64, counter: u64) -> u64
     ensures { λ r. ⌜ r ≡ wordOf inner outer counter ⌝ }
 {
     mix64(counter ^ inner) ^ outer

@@ -3,10 +3,14 @@
 //
 //     layouts.rt   EL FL
 //     probes.rt    MIX EP FP EW FW ER FR PHI PHB PHINV BUD
+//     funnels.rt   FRUN FBULK
 //
 // A line that is no command prints `?`. A line longer than 524,288 bytes, or a table of more than 65,536 slots, is more
 // than this program holds, and prints `L`.
+mod digest;
+mod funnels;
 mod layouts;
+mod operation;
 mod print;
 mod probes;
 
@@ -101,6 +105,21 @@ fn command(line: &[u8], out: &mut [u8], at: usize) -> usize {
     let args = field_after(line, end);
     if is_word(line, 0, end, b"EL") {
         return layouts::elastic(line, args, out, at);
+    }
+    if is_word(line, 0, end, b"FL") {
+        return layouts::funnel(line, args, out, at);
+    }
+    if is_word(line, 0, end, b"FRUN") {
+        return funnels::run(line, args, out, at);
+    }
+    if is_word(line, 0, end, b"FBULK") {
+        return funnels::bulk(line, args, out, at);
+    }
+    if is_word(line, 0, end, b"PHI") {
+        return probes::position(line, args, out, at);
+    }
+    if is_word(line, 0, end, b"PHINV") {
+        return probes::coordinates(line, args, out, at);
     }
     probes::command(line, end, args, out, at)
 }

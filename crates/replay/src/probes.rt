@@ -1,21 +1,40 @@
 // MIX EP FP EW FW ER FR PHI PHB PHINV BUD: the leaves.
 use crate::print;
+use probe::budget::Budgeted;
+use probe::budget::budget;
 use probe::counter::Domain;
 use probe::counter::PackedCounter;
 use probe::counter::elastic_counter;
 use probe::counter::funnel_counter;
 use probe::mix::mix64;
+use probe::phi::Bounded;
+use probe::phi::Coordinate;
+use probe::phi::Coordinates;
+use probe::phi::Position;
+use probe::phi::phi;
+use probe::phi::phi_bounded;
+use probe::phi::phi_inverse;
 use probe::range::Reduced;
 use probe::range::elastic_reduce;
 use probe::range::funnel_reduce;
+use probe::wide::Wide;
 use probe::word::ProbeWord;
 use probe::word::elastic_word;
 use probe::word::funnel_word;
 use refusal::Name;
+use text::field::OneWord;
+use text::field::TwoWords;
+use text::field::field_after;
+use text::field::field_end;
 use text::field::is_word;
+use text::field::number;
 use text::field::numbers;
+use text::field::wide_number;
+use text::out::put;
 use text::out::put_decimal;
 use text::out::put_field;
+use text::out::put_wide;
+use words::product::Halves;
 
 // A domain by its tag and level, of which a special one has none.
 enum Named {
@@ -52,7 +71,79 @@ pub fn command(line: &[u8], end: usize, args: usize, out: &mut [u8], at: usize) 
     if count == 7 && is_word(line, 0, end, b"FR") {
         return reduced_of_funnel(a, out, at);
     }
+    if count == 2 && is_word(line, 0, end, b"PHB") {
+        return bounded(a[0], a[1], out, at);
+    }
+    if count == 4 && is_word(line, 0, end, b"BUD") {
+        return put_budget(a, out, at);
+    }
     print::unknown(out, at)
+}
+
+// PHI i j, of which i may have two words.
+pub fn position(line: &[u8], args: usize, out: &mut [u8], at: usize) -> usize {
+    let end = field_end(line, args);
+    let from = field_after(line, end);
+    if line.len() < from {
+        return print::unknown(out, at);
+    }
+    let TwoWords::Value(i) = wide_number(line, args, end) else {
+        return print::unknown(out, at);
+    };
+    let OneWord::Value(j) = number(line, from, line.len()) else {
+        return print::unknown(out, at);
+    };
+    match phi(Wide { hi: i.hi, lo: i.lo }, j) {
+        Position::Overflow => print::refused(Name::Overflow, out, at),
+        Position::Coord(coordinate) => put_coordinate(coordinate, out, at),
+        Position::At(p) => put_wide(out, at, Halves { hi: p.hi, lo: p.lo }),
+    }
+}
+
+// PHINV p, which may have two words.
+pub fn coordinates(line: &[u8], args: usize, out: &mut [u8], at: usize) -> usize {
+    let TwoWords::Value(p) = wide_number(line, args, line.len()) else {
+        return print::unknown(out, at);
+    };
+    match phi_inverse(Wide { hi: p.hi, lo: p.lo }) {
+        Coordinates::Gap => print::refused(Name::Gap, out, at),
+        Coordinates::At { i, j } => {
+            let to = put_wide(out, at, Halves { hi: i.hi, lo: i.lo });
+            put_field(out, to, j)
+        }
+    }
+}
+
+fn bounded(i: u64, j: u64, out: &mut [u8], at: usize) -> usize {
+    if 4294967295 < i {
+        return print::unknown(out, at);
+    }
+    match phi_bounded(i as u32, j) {
+        Bounded::Overflow => print::refused(Name::Overflow, out, at),
+        Bounded::Coord(coordinate) => put_coordinate(coordinate, out, at),
+        Bounded::At(p) => put_decimal(out, at, p),
+    }
+}
+
+fn put_coordinate(coordinate: Coordinate, out: &mut [u8], at: usize) -> usize {
+    let to = print::refused(Name::Coord, out, at);
+    match coordinate {
+        Coordinate::I => put(out, to, b" i"),
+        Coordinate::J => put(out, to, b" j"),
+    }
+}
+
+fn put_budget(a: [u64; 7], out: &mut [u8], at: usize) -> usize {
+    if 4294967295 < a[2] {
+        return print::unknown(out, at);
+    }
+    match budget(a[0], a[1], a[2], a[3]) {
+        Budgeted::Probes(probes) => put_decimal(out, at, probes),
+        Budgeted::Budget { reason } => {
+            let to = print::refused(Name::Budget, out, at);
+            put_field(out, to, reason)
+        }
+    }
 }
 
 fn domain(tag: u64, level: u64) -> Named {

@@ -1,4 +1,7 @@
 // Fields of a line, and numbers: plain decimals, or 0x and hexadecimal digits.
+ghost use mathlib.Core.Path.{_≡_};
+ghost use Prim.Native.Nat.{_+_, _-_, _<_, _≤_, _^_};
+ghost use lib.ListN.{length};
 use words::product::Halves;
 use words::product::multiply_wide;
 
@@ -23,7 +26,9 @@ pub struct Row {
 }
 
 // The end of the field that starts at `from`: the next space, or the end of the line.
-pub fn field_end(line: &[u8], from: usize) -> usize {
+pub fn field_end(line: &[u8], from: usize) -> usize
+    ensures { λ r. ⌜ from ≤ r ⌝ }
+{
     let mut i = from;
     while i < line.len() {
         if line[i] == b' ' {
@@ -35,7 +40,9 @@ pub fn field_end(line: &[u8], from: usize) -> usize {
 }
 
 // Where the field after one that ends at `end` starts; past the line where there is none.
-pub fn field_after(line: &[u8], end: usize) -> usize {
+pub fn field_after(line: &[u8], end: usize) -> usize
+    ensures { λ r. ⌜ (end < length (now (line .entry)) → r ≡ end + 1) × (length (now (line .entry)) ≤ end → r ≡ 2 ^ 64 - 1) ⌝ }
+{
     if end < line.len() {
         return end + 1;
     }

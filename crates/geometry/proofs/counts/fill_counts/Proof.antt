@@ -1,9 +1,8 @@
 -- `geometry::counts::fill_counts` meets its contract. Assumes nothing.
-use mathlib.Core.Path.{_≡_, refl, ap, sym, _∙_}
-use Prim.Native.Nat.{ℕ, suc, _+_, _-_, _*_, _/_, _≤_, _<_}
+use mathlib.Core.Path.{_∙_}
+use Prim.Native.Nat.{_-_}
 use native.Mathlib.Omega.{arith}
-use borrow.Author.Needs.{needs}
-use lib.ListN.{length, set, length-set}
+use lib.ListN.{length-set}
 use Rattle.geometry.specs.FilledLaws.{Partial, partial-first, partial-more, partial-end, first-most, next-most}
 use Rattle.geometry.proofs.counts.fill_counts.Statement.{statement}
 use Rattle.geometry.proofs.counts.fill_counts.Tie as tie

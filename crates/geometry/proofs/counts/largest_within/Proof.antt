@@ -1,20 +1,22 @@
 -- `geometry::counts::largest_within` meets its contract. Assumes nothing.
-use mathlib.Core.Path.{_≡_, refl, ap, sym, _∙_}
-use Prim.Native.Nat.{ℕ, suc, _+_, _-_, _*_, _/_, _≤_, _<_}
+use mathlib.Core.Path.{sym, _∙_}
+use Prim.Native.Nat.{_-_}
 use native.Mathlib.Omega.{arith}
-use borrow.Author.Needs.{needs}
-use Rattle.geometry.specs.FilledLaws.{Within, within-start, within-right, within-left, within-end}
+use Rattle.geometry.specs.FilledLaws.{Within, within-two, within-start, within-right, within-left, within-end}
 use Rattle.geometry.proofs.counts.largest_within.Statement.{statement}
 use Rattle.geometry.proofs.counts.largest_within.Tie as tie
 
 abbrev Inv-loop : tie.InvT-loop
-Inv-loop t levels lo₀ hi₀ lo hi = Within t levels lo hi
+Inv-loop t levels q lo₀ hi₀ lo hi = Within t levels lo hi
 
 abbrev μ-loop : tie.MeasureT-loop
-μ-loop t levels lo₀ hi₀ lo hi = hi - lo
+μ-loop t levels q lo₀ hi₀ lo hi = hi - lo
+
+sub-hi : tie.Need-sub-hi Inv-loop μ-loop
+sub-hi c = let r = within-two _ _ _ (c .pre .1) (c .pre .2) in omega arith
 
 loop-holds : tie.Need-loop-holds Inv-loop μ-loop
-loop-holds c = within-start _ _ (c .pre .0) (c .pre .1)
+loop-holds c = within-start _ _ _ (c .pre .1) (c .pre .2) (c .pre .3)
 
 sub-mid : tie.Need-sub-mid Inv-loop μ-loop
 sub-mid c = omega arith
@@ -31,8 +33,8 @@ loop-less c = omega arith
 loop-again : tie.Need-loop-again Inv-loop μ-loop
 loop-again c = within-right (c .before .before .before .loop .inv) _ (omega arith) (omega arith) (sym (c .before .minimum-path-sum-at-most .ensures) ∙ c .if1 .taken)
 
-sub-hi : tie.Need-sub-hi Inv-loop μ-loop
-sub-hi c = omega arith
+sub-hi-2 : tie.Need-sub-hi-2 Inv-loop μ-loop
+sub-hi-2 c = omega arith
 
 loop-less-2 : tie.Need-loop-less-2 Inv-loop μ-loop
 loop-less-2 c = omega arith
@@ -49,13 +51,14 @@ largest-within-spec =
     (tie.spec
     Inv-loop
     μ-loop
+    sub-hi
     loop-holds
     sub-mid
     sub-mid-2
     minimum-path-sum-at-most-requires
     loop-less
     loop-again
-    sub-hi
+    sub-hi-2
     loop-less-2
     loop-again-2
     returns)

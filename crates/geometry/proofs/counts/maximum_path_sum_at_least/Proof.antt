@@ -1,9 +1,6 @@
 -- `geometry::counts::maximum_path_sum_at_least` meets its contract. Assumes nothing.
-use mathlib.Core.Path.{_≡_, refl, ap, sym, _∙_}
-use Prim.Native.Nat.{ℕ, suc, _+_, _-_, _*_, _/_, _≤_, _<_}
 use native.Mathlib.Omega.{arith}
 use borrow.Author.Needs.{needs}
-use Rattle.geometry.specs.Counts.{high}
 use Rattle.geometry.specs.PathLaws.{HighLeft, high-none, high-past, high-more, high-end}
 use Rattle.geometry.proofs.counts.maximum_path_sum_at_least.Statement.{statement}
 use Rattle.geometry.proofs.counts.maximum_path_sum_at_least.Tie as tie

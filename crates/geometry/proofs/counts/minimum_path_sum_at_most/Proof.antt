@@ -1,9 +1,6 @@
 -- `geometry::counts::minimum_path_sum_at_most` meets its contract. Assumes nothing.
-use mathlib.Core.Path.{_≡_, refl, ap, sym, _∙_}
-use Prim.Native.Nat.{ℕ, suc, _+_, _-_, _*_, _/_, _≤_, _<_}
 use native.Mathlib.Omega.{arith}
 use borrow.Author.Needs.{needs}
-use Rattle.geometry.specs.Counts.{low}
 use Rattle.geometry.specs.PathLaws.{LowLeft, low-none, low-past, low-more, low-end}
 use Rattle.geometry.proofs.counts.minimum_path_sum_at_most.Statement.{statement}
 use Rattle.geometry.proofs.counts.minimum_path_sum_at_most.Tie as tie

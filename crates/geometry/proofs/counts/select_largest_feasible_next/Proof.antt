@@ -1,7 +1,4 @@
 -- `geometry::counts::select_largest_feasible_next` meets its contract. Assumes nothing.
-use mathlib.Core.Path.{_≡_, refl, ap, sym, _∙_}
-use Prim.Native.Nat.{ℕ, suc, _+_, _-_, _*_, _/_, _≤_, _<_}
-use native.Mathlib.Omega.{arith}
 use borrow.Author.Needs.{needs}
 use Rattle.geometry.specs.FilledLaws.{taken-top, taken-middle, taken-bottom}
 use Rattle.geometry.proofs.counts.select_largest_feasible_next.Statement.{statement}

@@ -1,9 +1,8 @@
 -- `geometry::counts_test::chain_holds` meets its contract. Assumes nothing.
-use mathlib.Core.Path.{_≡_, refl, ap, sym, _∙_}
-use Prim.Native.Nat.{ℕ, suc, _+_, _-_, _*_, _/_, _≤_, _<_}
+use mathlib.Core.Path.{refl}
+use Prim.Native.Nat.{_+_, _-_, _<_}
 use native.Mathlib.Omega.{arith}
-use borrow.Author.Needs.{needs}
-use lib.ListN.{length, take, drop, getD}
+use lib.ListN.{take}
 use Rattle.geometry.specs.SaysLaws.{says-true, says-false}
 use Rattle.geometry.specs.WalkLaws.{From, here-at, sized, from-last, last-past, walk-low, walk-wrong, walk-past, walk-more, from-end, from-not}
 use Rattle.geometry.proofs.counts_test.chain_holds.Statement.{statement}

@@ -1,7 +1,4 @@
 -- `geometry::counts_test::counts_hold` meets its contract. Assumes nothing.
-use mathlib.Core.Path.{_≡_, refl, ap, sym, _∙_}
-use Prim.Native.Nat.{ℕ, suc, _+_, _-_, _*_, _/_, _≤_, _<_}
-use native.Mathlib.Omega.{arith}
 use borrow.Author.Needs.{needs}
 use Rattle.geometry.specs.WalkLaws.{both-say, no-chain}
 use Rattle.geometry.proofs.counts_test.counts_hold.Statement.{statement}

@@ -1,10 +1,9 @@
 -- `geometry::special::largest_special_length` meets its contract. Assumes nothing.
-use mathlib.Core.Path.{_≡_, refl, ap, sym, _∙_}
-use Prim.Native.Nat.{ℕ, suc, _+_, _-_, _*_, _/_, _≤_, _<_}
+use mathlib.Core.Path.{refl}
+use Prim.Native.Nat.{_-_, _*_}
 use native.Mathlib.Omega.{arith}
 use borrow.Author.Needs.{needs}
 use native.Mathlib.Nat.{mod-lt}
-use Prim.Native.Nat.{_%_}
 use Rattle.geometry.specs.SpecialLaws.{top-at, top-under, top-none}
 use Rattle.geometry.proofs.special.largest_special_length.Statement.{statement}
 use Rattle.geometry.proofs.special.largest_special_length.Tie as tie

@@ -1,8 +1,7 @@
 -- `geometry::special::search_down` meets its contract. Assumes nothing.
-use mathlib.Core.Path.{_≡_, refl, ap, sym, _∙_}
-use Prim.Native.Nat.{ℕ, suc, _+_, _-_, _*_, _/_, _≤_, _<_}
+use mathlib.Core.Path.{_≡_, refl}
+use Prim.Native.Nat.{_+_, _-_, _*_, _≤_}
 use native.Mathlib.Omega.{arith}
-use borrow.Author.Needs.{needs}
 use Rattle.geometry.specs.Special.{Below}
 use Rattle.geometry.specs.SpecialLaws.{found-low, found-here, found-short, found-none, tried-more}
 use native.Mathlib.Nat.{zero-mul}

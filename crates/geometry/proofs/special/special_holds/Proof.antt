@@ -1,10 +1,8 @@
--- `geometry::special::special_holds` meets its contract. Assumes nothing.
-use mathlib.Core.Path.{_≡_, refl, ap, sym, _∙_}
-use Prim.Native.Nat.{ℕ, suc, _+_, _-_, _*_, _/_, _≤_, _<_}
-use native.Mathlib.Omega.{arith}
+-- `geometry::special::special_holds` meets its contract: each test is a law of the length. Assumes nothing.
 use borrow.Author.Needs.{needs}
-use native.Mathlib.Nat.{pos-of-dvd-of-pos}
-use Rattle.geometry.specs.PeriodLaws.{not-main, not-fallback, not-largest, is-largest}
+use Prim.Native.Nat.{_*_}
+use native.Mathlib.Omega.{arith}
+use Rattle.geometry.specs.PeriodLaws.{measured, measured-main, measured-half, measured-most, measured-past, period-within, product-small}
 use Rattle.geometry.proofs.special.special_holds.Statement.{statement}
 use Rattle.geometry.proofs.special.special_holds.Tie as tie
 
@@ -14,42 +12,55 @@ returns c = search needs
 returns-2 : tie.Need-returns-2
 returns-2 c = search needs
 
+returns-3 : tie.Need-returns-3
+returns-3 c =
+    let s = c .before .before .before .pre in
+    λ d. omega (arith, measured-most _ _ _ _ _ _ _ _ (s .2) (s .4) (s .0) d .0)
+
+returns-4 : tie.Need-returns-4
+returns-4 c =
+    let s = c .before .before .before .before .pre in
+    λ d. omega (arith, measured-most _ _ _ _ _ _ _ _ (s .2) (s .4) (s .0) d .1)
+
 mul-beta : tie.Need-mul-beta
 mul-beta c = search needs
 
-sub-main : tie.Need-sub-main
-sub-main c = search needs
+mul-if5 : tie.Need-mul-if5
+mul-if5 c =
+    let s = c .before .before .before .before in
+    omega (arith, product-small (s .args .main) (2 * s .args .h) (omega arith) (omega arith))
 
-rem-main : tie.Need-rem-main
-rem-main c = search needs
-
-returns-3 : tie.Need-returns-3
-returns-3 c = not-main _ _ _ _ _ _ (c .if3 .taken)
-
-rem-half : tie.Need-rem-half
-rem-half c = search needs
-
-returns-4 : tie.Need-returns-4
-returns-4 c = not-fallback _ _ _ _ _ _ (c .if4 .taken)
-
-greatest-common-divisor-requires : tie.Need-greatest-common-divisor-requires
-greatest-common-divisor-requires c κs = search needs
-
-div-period : tie.Need-div-period
-div-period c = omega (arith, pos-of-dvd-of-pos (c .greatest-common-divisor .ensures .holds .right) (c .before .before .before .before .before .pre .3))
-
-div-more : tie.Need-div-more
-div-more c = search needs
+sub-if5 : tie.Need-sub-if5
+sub-if5 c = search needs
 
 returns-5 : tie.Need-returns-5
-returns-5 c =
-    let s = c .before .before .before .before .before .before .pre in
-    is-largest _ _ _ _ _ _ _ (s .0) (s .1) (s .3) (c .before .greatest-common-divisor .ensures) (omega arith) (omega arith) (s .4) (c .before .before .before .if3 .left) (c .before .before .if4 .left) (c .if5 .taken)
+returns-5 c = λ d. c .if5 .taken (measured-main _ _ _ _ _ _ _ _ d)
+
+mul-if6 : tie.Need-mul-if6
+mul-if6 c =
+    let s = c .before .before .before .before .before in
+    omega (arith, product-small (s .args .half) (s .args .w) (omega arith) (omega arith))
 
 returns-6 : tie.Need-returns-6
-returns-6 c =
-    let s = c .before .before .before .before .before .before .pre in
-    not-largest _ _ _ _ _ _ _ (s .0) (s .1) (s .3) (c .before .greatest-common-divisor .ensures) (omega arith) (c .if5 .left)
+returns-6 c = λ d. c .if6 .taken (measured-half _ _ _ _ _ _ _ _ d)
+
+special-period-requires : tie.Need-special-period-requires
+special-period-requires c κs = search needs
+
+mul-past : tie.Need-mul-past
+mul-past c =
+    let s = c .before .before .before .before .before .before .before in
+    omega (arith, product-small (c .special-period .result) (2 * s .args .h) (omega (arith, period-within _ _ _ (s .pre .4) (c .special-period .ensures))) (omega arith))
+
+returns-7 : tie.Need-returns-7
+returns-7 c =
+    let s = c .before .before .before .before .before .before .before .before .pre in
+    measured _ _ _ _ _ _ _ _ _ (s .2) (s .4) (s .0) (c .before .special-period .ensures) (s .6) (c .before .before .before .before .before .before .before .if1 .left) (c .before .before .before .before .before .before .if2 .left) (c .before .before .before .if5 .left) (c .before .before .if6 .left) (c .if7 .taken)
+
+returns-8 : tie.Need-returns-8
+returns-8 c =
+    let s = c .before .before .before .before .before .before .before .before .pre in
+    measured-past _ _ _ _ _ _ _ _ _ (s .2) (s .4) (s .0) (c .before .special-period .ensures) (c .before .before .before .before .before .before .if2 .left) (c .if7 .left)
 
 pub special-holds-spec : {M : Type 1} → statement M
 special-holds-spec =
@@ -57,14 +68,15 @@ special-holds-spec =
     (tie.spec
     returns
     returns-2
-    mul-beta
-    sub-main
-    rem-main
     returns-3
-    rem-half
     returns-4
-    greatest-common-divisor-requires
-    div-period
-    div-more
+    mul-beta
+    mul-if5
+    sub-if5
     returns-5
-    returns-6)
+    mul-if6
+    returns-6
+    special-period-requires
+    mul-past
+    returns-7
+    returns-8)

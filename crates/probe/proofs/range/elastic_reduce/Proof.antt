@@ -1,8 +1,6 @@
 -- `probe::range::elastic_reduce` meets its contract. Assumes nothing.
-use mathlib.Core.Path.{ap, _∙_}
 use native.Mathlib.Omega.{arith}
-use Rattle.probe.specs.Range.{reducedOf}
-use Rattle.probe.specs.RangeLaws.{elastic-core, elastic-upper, elastic-level, elastic-probe, elastic-cap, elastic-drawn}
+use Rattle.probe.specs.RangeLaws.{elastic-upper, elastic-level, elastic-probe, elastic-cap, elastic-answer}
 use borrow.Author.Needs.{needs}
 use Rattle.probe.proofs.range.elastic_reduce.Statement.{statement}
 use Rattle.probe.proofs.range.elastic_reduce.Tie as tie
@@ -32,8 +30,7 @@ answer-requires : tie.Need-answer-requires
 answer-requires c κs = search needs
 
 returns-5 : tie.Need-returns-5
-returns-5 c = c .answer .ensures ∙ ap reducedOf (c .before .elastic-draw .ensures ∙ elastic-core _ _ _ _ _ _ _ _ (c .before .before .before .elastic-key .ensures) (c .before .before .elastic-base .ensures))
-    ∙ elastic-drawn _ _ _ _ _ _ (c .before .before .before .before .before .before .before .if1 .left) (omega arith) (omega arith) (omega arith)
+returns-5 c = elastic-answer _ _ _ _ _ _ (c .before .before .before .before .before .before .before .if1 .left) (omega arith) (omega arith) (omega arith) _ _ _ _ (c .before .before .before .elastic-key .ensures) (c .before .before .elastic-base .ensures) (c .before .elastic-draw .ensures) (c .answer .ensures)
 
 pub elastic-reduce-spec : {M : Type 1} → statement M
 elastic-reduce-spec =

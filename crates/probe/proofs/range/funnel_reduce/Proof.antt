@@ -1,9 +1,7 @@
 -- `probe::range::funnel_reduce` meets its contract. Assumes nothing.
-use mathlib.Core.Path.{ap, _∙_}
 use native.Mathlib.Omega.{arith}
 use Rattle.probe.specs.CounterLaws.{domain-beyond, domain-below, funnel-fits}
-use Rattle.probe.specs.Range.{reducedOf}
-use Rattle.probe.specs.RangeLaws.{funnel-core, funnel-upper, funnel-level, funnel-probe, funnel-cap, funnel-drawn}
+use Rattle.probe.specs.RangeLaws.{funnel-upper, funnel-level, funnel-probe, funnel-cap, funnel-answer}
 use borrow.Author.Needs.{needs}
 use Rattle.probe.proofs.range.funnel_reduce.Statement.{statement}
 use Rattle.probe.proofs.range.funnel_reduce.Tie as tie
@@ -39,8 +37,8 @@ answer-requires c κs = search needs
 
 returns-5 : tie.Need-returns-5
 returns-5 c = let a = c .before .before .before .before .before .before .before .before .before .args in
-    c .answer .ensures ∙ ap reducedOf (c .before .funnel-draw .ensures ∙ funnel-core (a .seed) (a .identity) (a .domain) (a .probe) _ _ _ _ _ (c .before .before .before .funnel-key .ensures .0) (c .before .before .before .funnel-key .ensures .1) (c .before .before .funnel-base .ensures))
-    ∙ funnel-drawn _ _ _ _ _ _ (c .before .before .before .before .before .before .before .before .if1 .left) (domain-below (a .domain) _ (c .before .before .before .before .before .before .before .domain-fits .ensures) (c .before .before .before .before .before .before .if2 .left)) (omega arith) (omega arith)
+    let h = domain-below (a .domain) _ (c .before .before .before .before .before .before .before .domain-fits .ensures) (c .before .before .before .before .before .before .if2 .left) in
+    funnel-answer (a .seed) (a .identity) (a .domain) (a .probe) (a .upper) (a .cap) (c .before .before .before .before .before .before .before .before .if1 .left) h (omega arith) (omega arith) _ _ _ _ _ (c .before .before .before .funnel-key .ensures .0) (c .before .before .before .funnel-key .ensures .1) (c .before .before .funnel-base .ensures) (c .before .funnel-draw .ensures) (c .answer .ensures)
 
 pub funnel-reduce-spec : {M : Type 1} → statement M
 funnel-reduce-spec =

@@ -1,12 +1,12 @@
 -- `text::field::field_end` meets its contract. Assumes nothing.
 use borrow.Author.Needs.{needs}
-use Prim.Native.Nat.{_-_}
+use Prim.Native.Nat.{_≤_, _-_}
 use lib.ListN.{length}
 use Rattle.text.proofs.field.field_end.Statement.{statement}
 use Rattle.text.proofs.field.field_end.Tie as tie
 
 abbrev Inv-loop : tie.InvT-loop
-Inv-loop line from i₀ i = Unit {0}
+Inv-loop line from i₀ i = from ≤ i
 
 abbrev μ-loop : tie.MeasureT-loop
 μ-loop line from i₀ i = length line - i

@@ -1,0 +1,26 @@
+//! Times of this library beside the Rust it was carried over from, on the same inputs, in one run.
+
+extern crate alloc;
+
+/// The carried-over Rust, byte for byte.
+#[allow(dead_code)]
+#[path = "../../oracle/src/exact"]
+mod exact {
+    pub mod geometry;
+    pub mod probe;
+    pub mod reference;
+}
+
+mod calls;
+mod funnels;
+mod layouts;
+mod measure;
+mod probes;
+
+fn main() {
+    let wanted: Vec<String> = std::env::args().skip(1).collect();
+    let mut table = measure::Table::new(wanted);
+    layouts::rows(&mut table);
+    probes::rows(&mut table);
+    funnels::rows(&mut table);
+}

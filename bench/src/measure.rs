@@ -1,0 +1,84 @@
+//! Medians of times taken in turn, as a table.
+
+use std::time::Instant;
+
+/// How often each side of a row is timed.
+const ROUNDS: usize = 15;
+
+pub struct Table {
+    wanted: Vec<String>,
+}
+
+impl Table {
+    pub fn new(wanted: Vec<String>) -> Self {
+        println!("{:<46} {:>12} {:>12} {:>7}", "", "ours, ns", "Rust, ns", "ratio");
+        Self { wanted }
+    }
+
+    pub fn wants(&self, name: &str) -> bool {
+        self.wanted.is_empty() || self.wanted.iter().any(|start| name.starts_with(start.as_str()))
+    }
+
+    /// One row: each side does the same `operations`; its time for one of them is the median over the rounds.
+    pub fn row(
+        &mut self,
+        name: &str,
+        operations: usize,
+        mut ours: impl FnMut(),
+        mut theirs: impl FnMut(),
+    ) {
+        if !self.wants(name) {
+            return;
+        }
+        ours();
+        theirs();
+        let mut times = [Vec::new(), Vec::new()];
+        for _ in 0..ROUNDS {
+            times[0].push(time(&mut ours));
+            times[1].push(time(&mut theirs));
+        }
+        self.print(name, operations, times);
+    }
+
+    /// One row whose sides are made ready before each round, untimed.
+    #[allow(clippy::too_many_arguments)]
+    pub fn row_after<A, B>(
+        &mut self,
+        name: &str,
+        operations: usize,
+        our_state: &mut A,
+        their_state: &mut B,
+        mut ready_ours: impl FnMut(&mut A),
+        mut ready_theirs: impl FnMut(&mut B),
+        mut ours: impl FnMut(&mut A),
+        mut theirs: impl FnMut(&mut B),
+    ) {
+        let mut times = [Vec::new(), Vec::new()];
+        for round in 0..=ROUNDS {
+            ready_ours(our_state);
+            ready_theirs(their_state);
+            let mine = time(&mut || ours(our_state));
+            let other = time(&mut || theirs(their_state));
+            // The first round only warms up.
+            if round > 0 {
+                times[0].push(mine);
+                times[1].push(other);
+            }
+        }
+        self.print(name, operations, times);
+    }
+
+    fn print(&self, name: &str, operations: usize, times: [Vec<f64>; 2]) {
+        let [ours, theirs] = times.map(|mut side| {
+            side.sort_by(f64::total_cmp);
+            side[side.len() / 2] / operations as f64
+        });
+        println!("{name:<46} {ours:>12.1} {theirs:>12.1} {:>7.3}", ours / theirs);
+    }
+}
+
+fn time(work: &mut impl FnMut()) -> f64 {
+    let start = Instant::now();
+    work();
+    start.elapsed().as_nanos() as f64
+}

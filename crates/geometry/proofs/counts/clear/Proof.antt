@@ -1,0 +1,57 @@
+-- `geometry::counts::clear` meets its contract. The invariant: zeros in front, and behind them the old entries. Assumes nothing.
+use mathlib.Core.Path.{_≡_, refl, ap, _∙_}
+use mathlib.Core.List.{List, _++_}
+use Prim.Native.Nat.{ℕ, _-_, _≤_}
+use native.Mathlib.Omega.{arith}
+use lib.ListN.{length, drop, set, replicate, length-set}
+use borrow.Author.Fill.{fill-more}
+use Rattle.geometry.specs.ZeroLaws.{cleared}
+use Rattle.geometry.proofs.counts.clear.Statement.{statement}
+use Rattle.geometry.proofs.counts.clear.Tie as tie
+
+abbrev Inv-loop : tie.InvT-loop
+Inv-loop counts₀ i₀ counts i = (i ≤ length counts₀) × (length counts ≡ length counts₀) × (counts ≡ replicate i 0 ++ drop i counts₀)
+
+abbrev μ-loop : tie.MeasureT-loop
+μ-loop counts₀ i₀ counts i = length counts - i
+
+loop-holds : tie.Need-loop-holds Inv-loop μ-loop
+loop-holds c = (omega arith, refl, refl)
+
+mul-counts : tie.Need-mul-counts Inv-loop μ-loop
+mul-counts c = omega arith
+
+slice-write-counts : tie.Need-slice-write-counts Inv-loop μ-loop
+slice-write-counts c = omega arith
+
+add-i : tie.Need-add-i Inv-loop μ-loop
+add-i c = omega arith
+
+loop-less : tie.Need-loop-less Inv-loop μ-loop
+loop-less c = simp length-set (omega arith)
+
+loop-again : tie.Need-loop-again Inv-loop μ-loop
+loop-again c =
+    let v = c .before .loop .inv in
+    (omega arith, simp length-set (v .1), ap (λ (l : List ℕ). set l (c .before .loop .i) 0) (v .2) ∙ fill-more (c .before .loop .i) 0 (c .before .before .args .counts .now) (omega arith))
+
+same-length : tie.Need-same-length Inv-loop μ-loop
+same-length c = c .before .loop .inv .1
+
+returns : tie.Need-returns Inv-loop μ-loop
+returns c = c .before .loop .inv .2 ∙ cleared _ _ (omega arith) (c .before .loop .inv .0)
+
+pub clear-spec : {M : Type 1} → statement M
+clear-spec =
+    tie.close
+    (tie.spec
+    Inv-loop
+    μ-loop
+    loop-holds
+    mul-counts
+    slice-write-counts
+    add-i
+    loop-less
+    loop-again
+    same-length
+    returns)

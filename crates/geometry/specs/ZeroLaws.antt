@@ -1,0 +1,63 @@
+-- Entries that are 0 from one on: cleared, and counted one by one. Assumes nothing.
+use mathlib.Core.Path.{_≡_, refl, sym, ap, _∙_}
+use mathlib.Core.List.{List, _++_, append-nil}
+use Prim.Native.Nat.{ℕ, zero, suc, _+_, _-_, _≤_, _<_, min}
+use native.Mathlib.Nat.{lt-of-not-le}
+use native.Mathlib.Decide.{decLe}
+use native.Mathlib.Omega.{arith}
+use lib.ListN.{length, drop, getD, replicate, length-drop, length-replicate, getD-replicate, drop-of-length-le}
+use lib.Seq.{getD-drop, ext-getD}
+
+-- a list that is cleared to its end
+pub cleared : (n : ℕ) (l : List ℕ) → length l ≤ n → n ≤ length l → replicate n 0 ++ drop n l ≡ replicate (length l) 0
+cleared n l a b = let e : n ≡ length l = omega arith in rw (drop-of-length-le l a, append-nil, e)
+
+pub drop-zeros : (n k : ℕ) → drop {A = ℕ} k (replicate n 0) ≡ replicate (n - k) 0
+drop-zeros n zero = let e : n - 0 ≡ n = omega arith in rw e
+drop-zeros zero (suc k) = let e : 0 - suc k ≡ 0 = omega arith in rw e
+drop-zeros (suc n) (suc k) = let e : suc n - suc k ≡ n - k = omega arith in rw e (drop-zeros n k)
+
+module _ (cs : List ℕ) (from : ℕ) where
+  zero-at : drop from cs ≡ replicate (length cs - from) 0 → (k : ℕ) → from ≤ k → k < length cs → getD cs k 0 ≡ 0
+  zero-at h k a b =
+      let e : from + (k - from) ≡ k = omega arith in
+      let g : getD (drop from cs) (k - from) 0 ≡ getD cs k 0 = getD-drop from cs (k - from) 0 ∙ ap (λ (x : ℕ). getD cs x 0) e in
+      sym g ∙ ap (λ (l : List ℕ). getD l (k - from) 0) h ∙ getD-replicate {A = ℕ} (length cs - from) (k - from) 0 0 (omega arith)
+
+  zeros : (h : (k : ℕ) → from ≤ k → k < length cs → getD cs k 0 ≡ 0) → drop from cs ≡ replicate (length cs - from) 0
+  zeros h = ext-getD 0 (drop from cs) (replicate (length cs - from) 0) (length-drop from cs ∙ sym (length-replicate {A = ℕ} (length cs - from) 0)) at
+    where
+      at : (k : ℕ) → k < length (drop from cs) → getD (drop from cs) k 0 ≡ getD (replicate (length cs - from) 0) k 0
+      at k l =
+          let m = length-drop from cs in
+          getD-drop from cs k 0 ∙ h (from + k) (omega arith) (omega arith) ∙ sym (getD-replicate {A = ℕ} (length cs - from) k 0 0 (omega arith))
+
+  -- how many of the entries up to i are others than 0
+  pub record Others (i others : ℕ) : Type 0 where
+    pub least : from ≤ i
+    pub most : i ≤ length cs
+    pub few : others + from ≤ i
+    pub none : others ≡ 0 → (k : ℕ) → from ≤ k → k < i → getD cs k 0 ≡ 0
+    pub some : (others ≡ 0 → ⊥) → drop from cs ≡ replicate (length cs - from) 0 → ⊥
+
+  pub others-start : from ≤ length cs → Others from 0
+  others-start h = record { least = omega arith; most = h; few = omega arith; none = λ z k a b. absurd (omega arith); some = λ z. absurd (z refl) }
+
+  pub others-more : {i others : ℕ} → Others i others → i < length cs → Others (i + 1) (others + min 1 (getD cs i 0))
+  others-more {i} {others} o l =
+      let a = o .least in
+      let b = o .few in
+      record { least = omega arith; most = omega arith; few = omega arith; none = none; some = some }
+    where
+      none : others + min 1 (getD cs i 0) ≡ 0 → (k : ℕ) → from ≤ k → k < i + 1 → getD cs k 0 ≡ 0
+      none z k a b = go (decLe i k)
+        where
+          go : Dec (i ≤ k) → getD cs k 0 ≡ 0
+          go (yes p) = let e : i ≡ k = omega arith in let y : getD cs i 0 ≡ 0 = omega arith in rw (← e) y
+          go (no q) = o .none (omega arith) k a (lt-of-not-le q)
+
+      some : (others + min 1 (getD cs i 0) ≡ 0 → ⊥) → drop from cs ≡ replicate (length cs - from) 0 → ⊥
+      some z h = let y = zero-at h i (o .least) l in o .some (λ x. z (omega arith)) h
+
+  pub others-none : {i others : ℕ} → Others i others → length cs ≤ i → others ≡ 0 → drop from cs ≡ replicate (length cs - from) 0
+  others-none o l z = zeros (λ k a b. o .none z k a (omega arith))
