@@ -17,6 +17,7 @@ use Rattle.funnel.specs.declared.table.Insertion.{Insertion}
 use Rattle.funnel.specs.declared.table.Insertion.the-variants as insertion
 use Rattle.funnel.specs.Path.{slotOf}
 use Rattle.funnel.specs.Search.{findOf}
+use Rattle.funnel.specs.InsertLaws.{find-count}
 use Rattle.funnel.specs.Insert.{Done, done, withCount, unlessExhausted, insertBy, insertOf}
 use Rattle.audit.specs.Greedy.{unplaced, insertedAt, intoPlaced, ready}
 
@@ -96,11 +97,6 @@ module _ (table : FunnelTable) (counts words flags : List ℕ) (identity : ℕ) 
       ≡ done (insertion.Inserted probes place) (withCount table (table .count + 1)) (set words (slotOf place) identity) (set flags (slotOf place) 1)
   unfolding insertOf insertBy
   insert-vacant probes place e h = rw (e, lt-leb _ _ h)
-
--- the count plays no part in a search
-pub find-count : (table : FunnelTable) (k : ℕ) (counts words flags : List ℕ) (identity : ℕ) → findOf (withCount table k) counts words flags identity ≡ findOf table counts words flags identity
-unfolding findOf
-find-count table k counts words flags identity = refl
 
 -- ---- readiness by the search
 

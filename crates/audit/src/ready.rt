@@ -4,13 +4,12 @@ ghost use mathlib.Core.Path.{_≡_};
 ghost use Prim.Native.Nat.{_-_, _≤_, _<_};
 ghost use lib.ListN.{length};
 ghost use Rattle.audit.specs.Greedy.{firstFrom, ready};
-ghost use Rattle.funnel.specs.Path.{slotOf};
 ghost use Rattle.funnel.specs.Valid.{Valid};
 use crate::slots::First;
+use funnel::insert::slot_of;
 use funnel::search::find;
 use funnel::table::FunnelTable;
 use funnel::table::Search;
-use words::place::Place;
 
 // Whether a slot is ready, with some placed.
 pub fn is_ready(
@@ -77,27 +76,4 @@ pub fn next_ready(
         slot += 1;
     }
     First::Nothing
-}
-
-// The global slot of a place, as a number.
-fn slot_of(place: Place) -> u64
-    ensures { λ r. ⌜ r ≡ slotOf place ⌝ }
-{
-    match place {
-        Place::Ordinary {
-            level: _,
-            bucket: _,
-            slot_in_bucket: _,
-            global_slot,
-        } => global_slot.0,
-        Place::SpecialPrimary {
-            slot: _,
-            global_slot,
-        } => global_slot.0,
-        Place::SpecialFallback {
-            bucket: _,
-            slot_in_bucket: _,
-            global_slot,
-        } => global_slot.0,
-    }
 }

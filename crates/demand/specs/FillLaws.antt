@@ -16,8 +16,9 @@ use Rattle.funnel.specs.declared.table.Search.the-variants.{Vacant}
 use Rattle.funnel.specs.Path.{slotOf}
 use Rattle.funnel.specs.Search.{tablePath, findOf}
 use Rattle.funnel.specs.Insert.{withCount, insertOf}
+use Rattle.funnel.specs.InsertLaws.{find-count}
 use Rattle.audit.specs.Greedy.{ready}
-use Rattle.audit.specs.ReadyLaws.{Was, inserted-was, find-count, ready-by}
+use Rattle.audit.specs.ReadyLaws.{Was, inserted-was, ready-by}
 use Rattle.demand.specs.Made.{Occupied, members, Inserts, none, one, PartOf}
 use Rattle.demand.specs.MadeLaws.{getD-set-cases, members-set}
 use Rattle.demand.specs.WalkLaws.{Inside, find-over, find-vacancy, Below, find-below}
@@ -67,8 +68,8 @@ module _ (table : FunnelTable) (counts : List ℕ) (below : (identity : ℕ) →
 
   slot-of : {words flags : List ℕ} (identity s probes : ℕ) (place : Place) → Sized words flags → slotOf place ≡ s → findOf table counts words flags identity ≡ Vacant probes place → Slot words flags s
   slot-of {words} {flags} identity s probes place z at f =
-      let b = find-below (table .n) words flags identity probes place table counts (below identity) f in
-      let v = find-vacancy words flags identity probes place table counts f in
+      let b = find-below table counts words flags identity probes place f (table .n) (below identity) in
+      let v = find-vacancy table counts words flags identity probes place f in
       record { in-words = omega (arith, z .words-n); in-flags = omega (arith, z .flags-n); vacant = rw at at v }
 
   pub fills-words : {k k' : ℕ} {words flags words' flags' : List ℕ} → Fills table counts k words flags k' words' flags' → length words ≡ table .n → length words' ≡ table .n

@@ -19,9 +19,10 @@ use Rattle.funnel.specs.Search.{tablePath, findOf}
 use Rattle.funnel.specs.Insert.{done, withCount, insertOf}
 use Rattle.audit.specs.declared.slots.First.{First}
 use Rattle.audit.specs.declared.slots.First.the-variants.{At, Nothing}
+use Rattle.funnel.specs.InsertLaws.{find-count}
 use Rattle.audit.specs.Greedy.{firstFrom, ready, Taken, taken, byFirst, greedyOf}
 use Rattle.audit.specs.FirstLaws.{first-found, first-none}
-use Rattle.audit.specs.ReadyLaws.{Ready, ready-facts, ready-marked, find-count, insert-vacant}
+use Rattle.audit.specs.ReadyLaws.{Ready, ready-facts, ready-marked, insert-vacant}
 use Rattle.demand.specs.Made.{Occupied, members, Inserts, none, one, LeavesAt, identitiesAt, placedWords}
 use Rattle.demand.specs.MadeLaws.{getD-zeros, getD-set-cases, members-zeros, members-set, members-most, placed-length, placed-none, placed-set, placed-same}
 use Rattle.demand.specs.WalkLaws.{find-same, Below, find-below}

@@ -13,6 +13,8 @@ use Rattle.funnel.specs.declared.table.FunnelTable.{FunnelTable}
 use Rattle.funnel.specs.declared.table.Search.{Search}
 use Rattle.funnel.specs.declared.table.Search.the-variants.{Hit, Vacant, Full, Range}
 use Rattle.funnel.specs.Path.{Ending, full, refused, slotOf}
+use Rattle.funnel.specs.Every.{Every}
+use Rattle.funnel.specs.SearchLaws.{walk-vacant, every-reached}
 use Rattle.funnel.specs.Search.{look, walkOf, searchOf, tablePath, findOf}
 use Rattle.demand.specs.Made.{Occupied}
 
@@ -68,45 +70,16 @@ module _ (words' flags' words marks : List ℕ) (identity j : ℕ) (at : Place) 
 
 -- ---- the vacancy
 
--- a slot that a walk ends vacant at is vacant
-module _ (words flags : List ℕ) (identity j : ℕ) (at : Place) where
-  walk-vacancy : (places : List Place) (ending : Ending) (k : ℕ) → walkOf words flags identity places ending k ≡ Vacant j at → getD flags (slotOf at) 0 ≡ 0
-  unfolding walkOf
-  walk-vacancy [] full k e = let z : _≡_ {A = ℕ} 0 1 = cc in absurd (omega arith)
-  walk-vacancy [] (refused refusal) k e = let z : _≡_ {A = ℕ} 0 1 = cc in absurd (omega arith)
-  walk-vacancy (p ∷ places) ending k e = go (eqb (getD flags (slotOf p) 0) 0) refl (eqb (getD words (slotOf p) 0) identity) e (walk-vacancy places ending (k + 1))
-    where
-      go : (x : Bool) → eqb (getD flags (slotOf p) 0) 0 ≡ x → (y : Bool) → look x y (k + 1) p (walkOf words flags identity places ending (k + 1)) ≡ Vacant j at
-          → (walkOf words flags identity places ending (k + 1) ≡ Vacant j at → getD flags (slotOf at) 0 ≡ 0) → getD flags (slotOf at) 0 ≡ 0
-      go true ex y e ih = let m : p ≡ at = cc in rw (← m) (eqb-true (getD flags (slotOf p) 0) 0 ex)
-      go false ex true e ih = let z : _≡_ {A = ℕ} 0 1 = cc in absurd (omega arith)
-      go false ex false e ih = ih e
-
-  pub find-vacancy : (table : FunnelTable) (counts : List ℕ) → findOf table counts words flags identity ≡ Vacant j at → getD flags (slotOf at) 0 ≡ 0
-  unfolding findOf searchOf
-  find-vacancy table counts e = walk-vacancy _ _ 0 e
-
--- ---- within the table
-
 -- every slot of a path is below n
 abbrev pub Below : ℕ → List Place → Type 0
-Below n [] = Unit {0}
-Below n (p ∷ places) = (slotOf p < n) × Below n places
+Below n places = Every (λ p. slotOf p < n) places
 
-module _ (n : ℕ) (words flags : List ℕ) (identity j : ℕ) (at : Place) where
-  walk-below : (places : List Place) (ending : Ending) (k : ℕ) → Below n places → walkOf words flags identity places ending k ≡ Vacant j at → slotOf at < n
-  unfolding walkOf
-  walk-below [] full k b e = let z : _≡_ {A = ℕ} 0 1 = cc in absurd (omega arith)
-  walk-below [] (refused refusal) k b e = let z : _≡_ {A = ℕ} 0 1 = cc in absurd (omega arith)
-  walk-below (p ∷ places) ending k b e =
-      go (eqb (getD flags (slotOf p) 0) 0) (eqb (getD words (slotOf p) 0) identity) e (walk-below places ending (k + 1) (b .1))
-    where
-      go : (x y : Bool) → look x y (k + 1) p (walkOf words flags identity places ending (k + 1)) ≡ Vacant j at
-          → (walkOf words flags identity places ending (k + 1) ≡ Vacant j at → slotOf at < n) → slotOf at < n
-      go true y e ih = let m : p ≡ at = cc in rw (← m) (b .0)
-      go false true e ih = let z : _≡_ {A = ℕ} 0 1 = cc in absurd (omega arith)
-      go false false e ih = ih e
-
-  pub find-below : (table : FunnelTable) (counts : List ℕ) → Below n (tablePath table counts identity .places) → findOf table counts words flags identity ≡ Vacant j at → slotOf at < n
+-- a slot that a search ends vacant at is vacant, and in the table
+module _ (table : FunnelTable) (counts words flags : List ℕ) (identity j : ℕ) (at : Place) (e : findOf table counts words flags identity ≡ Vacant j at) where
+  pub find-vacancy : getD flags (slotOf at) 0 ≡ 0
   unfolding findOf searchOf
-  find-below table counts b e = walk-below _ _ 0 b e
+  find-vacancy = walk-vacant words flags identity _ _ 0 j at e .1
+
+  pub find-below : (n : ℕ) → Below n (tablePath table counts identity .places) → slotOf at < n
+  unfolding findOf searchOf
+  find-below n b = every-reached (λ q. slotOf q < n) (walk-vacant words flags identity _ _ 0 j at e .0) b

@@ -4,40 +4,28 @@ use Rattle.audit.specs.CheckLaws.{audit-dirty, audit-clean}
 use borrow.Author.Needs.{needs}
 use Rattle.audit.proofs.check.audit.Statement.{statement}
 use Rattle.audit.proofs.check.audit.Tie as tie
-use Rattle.audit.proofs.check.audit.Reads as reads
-use Rattle.audit.proofs.check.audit.Lts as lts
-use Rattle.audit.proofs.check.place_members.Reads as place-members-reads
-use Rattle.audit.proofs.slots.first_dirty.Reads as first-dirty-reads
 
--- src/check.rt:34:11
 first-dirty-requires : tie.Need-first-dirty-requires
 first-dirty-requires c κs = search needs
 
--- src/check.rt:35:21
 enum-known-slot : tie.Need-enum-known-slot
 enum-known-slot c = search needs
 
--- src/check.rt:36:70
 enum-told : tie.Need-enum-told
 enum-told c = search needs
 
--- src/check.rt:36:27
 place-members-requires : tie.Need-place-members-requires
 place-members-requires c κs = search needs
 
--- src/check.rt:23:1
 returns : tie.Need-returns
 returns c = audit-dirty _ _ _ _ _ _ _ (c .before .before .before .first-dirty .ensures) _ (c .before .slot .given .1)
 
--- src/check.rt:23:1
 same-length : tie.Need-same-length
 same-length c = search needs
 
--- src/check.rt:23:1
 same-length-2 : tie.Need-same-length-2
 same-length-2 c = search needs
 
--- src/check.rt:23:1
 returns-2 : tie.Need-returns-2
 returns-2 c = c .before .before .before .before .place-members .ensures ∙ audit-clean _ _ _ _ _ _ _ (c .before .before .before .before .before .before .before .before .before .first-dirty .ensures) (c .before .before .before .before .before .before .before .enum-told .given .1)
 

@@ -3,48 +3,34 @@ use Rattle.audit.specs.CheckLaws.{take-ends}
 use borrow.Author.Needs.{needs}
 use Rattle.audit.proofs.check.place_members.Statement.{statement}
 use Rattle.audit.proofs.check.place_members.Tie as tie
-use Rattle.audit.proofs.check.place_members.Reads as reads
-use Rattle.audit.proofs.check.place_members.Lts as lts
-use Rattle.audit.proofs.pass.take_members.Reads as take-members-reads
-use Rattle.audit.proofs.slots.first_unplaced.Reads as first-unplaced-reads
 
--- src/check.rt:52:9
 take-members-requires : tie.Need-take-members-requires
 take-members-requires c κs = search needs
 
--- src/check.rt:53:11
 first-unplaced-requires : tie.Need-first-unplaced-requires
 first-unplaced-requires c κs = search needs
 
--- src/check.rt:54:21
 enum-known-slot : tie.Need-enum-known-slot
 enum-known-slot c = search needs
 
--- src/check.rt:55:27
 enum-told : tie.Need-enum-told
 enum-told c = search needs
 
--- src/check.rt:41:1
 same-length : tie.Need-same-length
 same-length c = search needs
 
--- src/check.rt:41:1
 same-length-2 : tie.Need-same-length-2
 same-length-2 c = search needs
 
--- src/check.rt:41:1
 returns : tie.Need-returns
 returns c = take-ends _ _ _ _ _ _ _ _ _ _ (c .before .before .before .before .before .before .before .before .before .take-members .ensures) (c .before .before .before .first-unplaced .ensures) (c .before .slot .given .1)
 
--- src/check.rt:41:1
 same-length-3 : tie.Need-same-length-3
 same-length-3 c = search needs
 
--- src/check.rt:41:1
 same-length-4 : tie.Need-same-length-4
 same-length-4 c = search needs
 
--- src/check.rt:41:1
 returns-2 : tie.Need-returns-2
 returns-2 c = take-ends _ _ _ _ _ _ _ _ _ _ (c .before .before .before .before .before .before .before .before .take-members .ensures) (c .before .before .first-unplaced .ensures) (c .enum-told .given .1)
 

@@ -9,37 +9,25 @@ use Rattle.audit.specs.GreedyLaws.{going-on, greedy-cleared, valid-marks
 use borrow.Author.Needs.{needs}
 use Rattle.audit.proofs.pass.take_members.Statement.{statement}
 use Rattle.audit.proofs.pass.take_members.Tie as tie
-use Rattle.audit.proofs.pass.take_members.Reads as reads
-use Rattle.audit.proofs.pass.take_members.Lts as lts
-use Rattle.audit.proofs.pass.take_ordinary.Reads as take-ordinary-reads
-use Rattle.audit.proofs.pass.take_special.Reads as take-special-reads
-use Rattle.audit.proofs.slots.clear.Reads as clear-reads
 
--- src/pass.rt:27:5
 clear-requires : tie.Need-clear-requires
 clear-requires c κs = search needs
 
--- src/pass.rt:28:17
 sub-start : tie.Need-sub-start
 sub-start c = let f = plan-facts (c .before .before .before .before .before .before .before .before .before .pre .0 .planned) in omega arith
 
--- src/pass.rt:29:9
 take-ordinary-requires : tie.Need-take-ordinary-requires
 take-ordinary-requires c κs = (valid-marks (c .before .before .before .before .before .before .before .before .before .before .before .pre .0) _ (ap length (c .before .before .before .before .before .clear .ensures) ∙ length-replicate _ _ ∙ c .before .before .before .before .before .before .before .before .before .before .before .pre .1), c .before .before .before .before .before .before .before .before .before .before .before .pre .0 .flags-length, c .before .before .before .before .before .before .before .before .before .before .before .pre .2, sym (primary-start (c .before .before .before .before .before .before .before .before .before .before .before .pre .0 .planned)), omega arith)
 
--- src/pass.rt:30:5
 take-special-requires : tie.Need-take-special-requires
 take-special-requires c κs = (valid-marks (c .before .before .before .before .before .before .before .before .before .before .before .before .before .before .before .before .before .before .pre .0) _ (c .before .before .before .before .before .before .take-ordinary .ensures .marks-n), c .before .before .before .before .before .before .before .before .before .before .before .before .before .before .before .before .before .before .pre .0 .flags-length, sym (primary-start (c .before .before .before .before .before .before .before .before .before .before .before .before .before .before .before .before .before .before .pre .0 .planned)), omega arith, going-on (c .before .before .before .before .before .before .take-ordinary .ensures))
 
--- src/pass.rt:16:1
 same-length : tie.Need-same-length
 same-length c = search needs
 
--- src/pass.rt:16:1
 same-length-2 : tie.Need-same-length-2
 same-length-2 c = search needs
 
--- src/pass.rt:16:1
 returns : tie.Need-returns
 returns c = c .before .before .before .before .take-special .ensures ∙ sym (c .before .before .before .before .before .before .before .before .before .before .before .take-ordinary .ensures .left) ∙ greedy-cleared _ _ _ _ _ _ (now (c .before .before .before .before .before .before .before .before .before .before .before .before .before .before .before .before .before .before .before .before .before .before .before .args .marks)) (c .before .before .before .before .before .before .before .before .before .before .before .before .before .before .before .before .before .clear .ensures) (c .before .before .before .before .before .before .before .before .before .before .before .before .before .before .before .before .before .before .before .before .before .before .before .pre .1)
 

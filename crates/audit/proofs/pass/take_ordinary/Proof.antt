@@ -7,9 +7,6 @@ use Rattle.audit.specs.Greedy.{greedyOf}
 use Rattle.audit.specs.GreedyLaws.{Going, going-none, going-skip, going-rise, valid-marks}
 use Rattle.audit.proofs.pass.take_ordinary.Statement.{statement}
 use Rattle.audit.proofs.pass.take_ordinary.Tie as tie
-use Rattle.audit.proofs.pass.take_ordinary.Reads as reads
-use Rattle.audit.proofs.pass.take_ordinary.Lts as lts
-use Rattle.audit.proofs.ready.is_ready.Reads as is-ready-reads
 
 abbrev Inv-loop : tie.InvT-loop
 Inv-loop table counts words flags marks₀ order₀ start placed₀ slot₀ marks order placed slot = (placed ≤ slot) × (slot ≤ start) × Going (greedyOf table counts words flags (table .n) (table .n) marks₀ order₀ 0) table counts words flags marks order placed slot
@@ -17,59 +14,45 @@ Inv-loop table counts words flags marks₀ order₀ start placed₀ slot₀ mark
 abbrev μ-loop : tie.MeasureT-loop
 μ-loop table counts words flags marks₀ order₀ start placed₀ slot₀ marks order placed slot = start - slot
 
--- src/pass.rt:30:5
 loop-holds : tie.Need-loop-holds Inv-loop μ-loop
 loop-holds c = (omega arith, omega arith, going-none _ _ _ _ _ _ (c .before .before .before .before .pre .0 .flags-length) (c .before .before .before .before .pre .2))
 
--- src/pass.rt:32:9
 add-slot : tie.Need-add-slot Inv-loop μ-loop
 add-slot c = omega arith
 
--- src/pass.rt:33:12
 is-ready-requires : tie.Need-is-ready-requires Inv-loop μ-loop
 is-ready-requires c κs = (valid-marks (c .before .before .before .before .before .before .before .pre .0) _ (c .before .before .loop .inv .2 .marks-n), c .before .before .before .before .before .before .before .pre .1, omega arith)
 
--- src/pass.rt:34:13
 slice-write-marks : tie.Need-slice-write-marks Inv-loop μ-loop
 slice-write-marks c = let g = c .before .before .before .before .loop .inv .2 .marks-n in omega arith
 
--- src/pass.rt:35:13
 mul-order : tie.Need-mul-order Inv-loop μ-loop
 mul-order c = search needs
 
--- src/pass.rt:35:13
 slice-write-order : tie.Need-slice-write-order Inv-loop μ-loop
 slice-write-order c = let g = c .before .before .before .before .loop .inv .2 .order-n in omega arith
 
--- src/pass.rt:36:13
 add-placed : tie.Need-add-placed Inv-loop μ-loop
 add-placed c = omega arith
 
--- src/pass.rt:30:5
 loop-less : tie.Need-loop-less Inv-loop μ-loop
 loop-less c = omega arith
 
--- src/pass.rt:30:5
 loop-again : tie.Need-loop-again Inv-loop μ-loop
 loop-again c = (omega arith, omega arith, going-rise (c .before .before .before .before .loop .inv .2) (c .before .before .before .before .before .before .before .before .before .pre .0 .planned) (omega arith) (omega arith) (omega arith) (sym (c .before .is-ready .ensures) ∙ c .if1 .taken))
 
--- src/pass.rt:30:5
 loop-less-2 : tie.Need-loop-less-2 Inv-loop μ-loop
 loop-less-2 c = omega arith
 
--- src/pass.rt:30:5
 loop-again-2 : tie.Need-loop-again-2 Inv-loop μ-loop
 loop-again-2 c = (omega arith, omega arith, going-skip (c .before .before .before .before .loop .inv .2) (sym (c .before .is-ready .ensures) ∙ c .if1 .left))
 
--- src/pass.rt:16:1
 same-length : tie.Need-same-length Inv-loop μ-loop
 same-length c = c .before .loop .inv .2 .marks-n ∙ sym (c .before .before .before .before .before .before .pre .0 .flags-length)
 
--- src/pass.rt:16:1
 same-length-2 : tie.Need-same-length-2 Inv-loop μ-loop
 same-length-2 c = c .before .loop .inv .2 .order-n ∙ sym (c .before .before .before .before .before .before .pre .2)
 
--- src/pass.rt:16:1
 returns : tie.Need-returns Inv-loop μ-loop
 returns c = let e : c .before .loop .slot ≡ c .before .before .before .before .before .before .args .start = omega arith in rw e at (c .before .loop .inv .2)
 

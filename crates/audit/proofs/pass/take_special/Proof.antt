@@ -8,9 +8,6 @@ use Rattle.audit.specs.FirstLaws.{first-found}
 use Rattle.audit.specs.GreedyLaws.{Going, going-special, going-stop, going-end, valid-marks}
 use Rattle.audit.proofs.pass.take_special.Statement.{statement}
 use Rattle.audit.proofs.pass.take_special.Tie as tie
-use Rattle.audit.proofs.pass.take_special.Reads as reads
-use Rattle.audit.proofs.pass.take_special.Lts as lts
-use Rattle.audit.proofs.ready.next_ready.Reads as next-ready-reads
 
 abbrev Inv-loop : tie.InvT-loop
 Inv-loop table counts words flags marks₀ order₀ start before n placed₀ marks order placed = Going (greedyOf table counts words flags (table .n) (table .n - before) marks₀ order₀ before) table counts words flags marks order placed start
@@ -18,67 +15,51 @@ Inv-loop table counts words flags marks₀ order₀ start before n placed₀ mar
 abbrev μ-loop : tie.MeasureT-loop
 μ-loop table counts words flags marks₀ order₀ start before n placed₀ marks order placed = n - placed
 
--- src/pass.rt:58:5
 loop-holds : tie.Need-loop-holds Inv-loop μ-loop
 loop-holds c = c .before .before .before .before .pre .4
 
--- src/pass.rt:59:15
 next-ready-requires : tie.Need-next-ready-requires Inv-loop μ-loop
 next-ready-requires c κs = (valid-marks (c .before .before .before .before .before .before .before .pre .0) _ (c .before .before .loop .inv .marks-n), c .before .before .before .before .before .before .before .pre .1, c .before .before .before .before .before .before .before .pre .3)
 
--- src/pass.rt:60:25
 enum-known-slot : tie.Need-enum-known-slot Inv-loop μ-loop
 enum-known-slot c = search needs
 
--- src/pass.rt:61:17
 slice-write-marks : tie.Need-slice-write-marks Inv-loop μ-loop
 slice-write-marks c = let f = first-found _ _ _ _ (sym (c .before .before .before .next-ready .ensures) ∙ c .before .slot .given .1) in let g = c .before .before .before .before .before .before .loop .inv .marks-n in let p = c .before .before .before .before .before .before .before .before .before .before .before .pre .3 in omega (arith, f .below)
 
--- src/pass.rt:62:17
 mul-order : tie.Need-mul-order Inv-loop μ-loop
 mul-order c = search needs
 
--- src/pass.rt:62:17
 slice-write-order : tie.Need-slice-write-order Inv-loop μ-loop
 slice-write-order c = let g = c .before .before .before .before .before .before .loop .inv .order-n in omega arith
 
--- src/pass.rt:63:17
 add-placed : tie.Need-add-placed Inv-loop μ-loop
 add-placed c = omega arith
 
--- src/pass.rt:58:5
 loop-less : tie.Need-loop-less Inv-loop μ-loop
 loop-less c = omega arith
 
--- src/pass.rt:58:5
 loop-again : tie.Need-loop-again Inv-loop μ-loop
 loop-again c = going-special (c .before .before .before .before .before .before .loop .inv) (c .before .before .before .before .before .before .before .before .before .before .before .pre .0 .planned) (c .before .before .before .before .before .before .before .before .before .before .before .pre .2) (c .before .before .before .before .before .before .before .before .before .before .before .pre .3) _ (c .before .before .before .before .before .loop-test .taken) (sym (c .before .before .before .next-ready .ensures) ∙ c .before .slot .given .1)
 
--- src/pass.rt:66:17
 enum-told : tie.Need-enum-told Inv-loop μ-loop
 enum-told c = search needs
 
--- src/pass.rt:66:17
 same-length : tie.Need-same-length Inv-loop μ-loop
 same-length c = c .before .before .before .before .before .loop .inv .marks-n ∙ sym (c .before .before .before .before .before .before .before .before .before .before .pre .0 .flags-length)
 
--- src/pass.rt:66:17
 same-length-2 : tie.Need-same-length-2 Inv-loop μ-loop
 same-length-2 c = c .before .before .before .before .before .loop .inv .order-n ∙ sym (c .before .before .before .before .before .before .before .before .before .before .pre .4 .order-n)
 
--- src/pass.rt:66:17
 returns : tie.Need-returns Inv-loop μ-loop
 returns c = going-stop (c .before .before .before .before .before .loop .inv) (c .before .before .before .before .before .before .before .before .before .before .pre .0 .planned) (c .before .before .before .before .before .before .before .before .before .before .pre .2) (c .before .before .before .before .before .before .before .before .before .before .pre .3) (c .before .before .before .before .loop-test .taken) (sym (c .before .before .next-ready .ensures) ∙ c .enum-told .given .1)
 
--- src/pass.rt:43:1
 same-length-3 : tie.Need-same-length-3 Inv-loop μ-loop
 same-length-3 c = c .before .loop .inv .marks-n ∙ sym (c .before .before .before .before .before .before .pre .0 .flags-length)
 
--- src/pass.rt:43:1
 same-length-4 : tie.Need-same-length-4 Inv-loop μ-loop
 same-length-4 c = c .before .loop .inv .order-n ∙ sym (c .before .before .before .before .before .before .pre .4 .order-n)
 
--- src/pass.rt:43:1
 returns-2 : tie.Need-returns-2 Inv-loop μ-loop
 returns-2 c = going-end (c .before .loop .inv) (c .loop-test .left)
 

@@ -4,76 +4,55 @@ use Rattle.audit.specs.ReadyLaws.{ready-vacant, ready-marked, ready-exha
 use borrow.Author.Needs.{needs}
 use Rattle.audit.proofs.ready.is_ready.Statement.{statement}
 use Rattle.audit.proofs.ready.is_ready.Tie as tie
-use Rattle.audit.proofs.ready.is_ready.Reads as reads
-use Rattle.audit.proofs.ready.is_ready.Lts as lts
-use Rattle.audit.proofs.ready.slot_of.Reads as slot-of-reads
-use Rattle.funnel.proofs.search.find.Reads as find-reads
 
--- src/ready.rt:29:8
 shared-slice-read-if1 : tie.Need-shared-slice-read-if1
 shared-slice-read-if1 c = search needs
 
--- src/ready.rt:30:9
 returns : tie.Need-returns
 returns c = sym (ready-vacant _ _ _ _ _ _ _ (c .if1 .taken))
 
--- src/ready.rt:32:8
 shared-slice-read-if2 : tie.Need-shared-slice-read-if2
 shared-slice-read-if2 c = search needs
 
--- src/ready.rt:33:9
 returns-2 : tie.Need-returns-2
 returns-2 c = sym (ready-marked _ _ _ _ _ _ _ (c .if2 .taken))
 
--- src/ready.rt:36:9
 returns-3 : tie.Need-returns-3
 returns-3 c = sym (ready-exhausted _ _ _ _ _ _ _ (c .if3 .taken))
 
--- src/ready.rt:38:20
 mul-identity : tie.Need-mul-identity
 mul-identity c = search needs
 
--- src/ready.rt:38:20
 shared-slice-read-identity : tie.Need-shared-slice-read-identity
 shared-slice-read-identity c = search needs
 
--- src/ready.rt:39:11
 find-requires : tie.Need-find-requires
 find-requires c κs = search needs
 
--- src/ready.rt:40:37
 enum-known-place : tie.Need-enum-known-place
 enum-known-place c = search needs
 
--- src/ready.rt:41:20
 slot-of-requires : tie.Need-slot-of-requires
 slot-of-requires c κs = search needs
 
--- src/ready.rt:41:13
 returns-4 : tie.Need-returns-4
 returns-4 c = rw (c .slot-of .ensures) (ready-found _ _ _ _ _ _ _ (c .before .before .before .before .before .before .if3 .left) (c .before .before .before .before .before .before .before .before .before .before .if1 .left) (c .before .before .before .before .before .before .before .before .if2 .left) _ _ (c .before .before .before .before .find .ensures) (c .before .before .place .given .1))
 
--- src/ready.rt:47:13
 enum-told : tie.Need-enum-told
 enum-told c = search needs
 
--- src/ready.rt:47:13
 returns-5 : tie.Need-returns-5
 returns-5 c = ready-found _ _ _ _ _ _ _ (c .before .before .before .before .if3 .left) (c .before .before .before .before .before .before .before .before .if1 .left) (c .before .before .before .before .before .before .if2 .left) _ _ (c .before .before .find .ensures) (c .enum-told .given .1)
 
--- src/ready.rt:50:13
 enum-told-2 : tie.Need-enum-told-2
 enum-told-2 c = search needs
 
--- src/ready.rt:50:13
 returns-6 : tie.Need-returns-6
 returns-6 c = ready-found _ _ _ _ _ _ _ (c .before .before .before .before .if3 .left) (c .before .before .before .before .before .before .before .before .if1 .left) (c .before .before .before .before .before .before .if2 .left) _ _ (c .before .before .find .ensures) (c .enum-told2 .given .1)
 
--- src/ready.rt:53:13
 enum-told-3 : tie.Need-enum-told-3
 enum-told-3 c = search needs
 
--- src/ready.rt:53:13
 returns-7 : tie.Need-returns-7
 returns-7 c = ready-found _ _ _ _ _ _ _ (c .before .before .before .before .if3 .left) (c .before .before .before .before .before .before .before .before .if1 .left) (c .before .before .before .before .before .before .if2 .left) _ _ (c .before .before .find .ensures) (c .enum-told3 .given .1)
 
