@@ -51,22 +51,32 @@ fills-of {table} {counts} {t} {t'} {words} {flags} k e (one {table' = u} {words'
         → Fills table counts (k + 1) (set words s identity) (set flags s 1) k' words' flags'
     go v g s identity p q r = rw (← p, ← q) r
 
+-- flags 0 and 1, and no word where nothing is
+pub record Clean (words flags : List ℕ) : Type 0 where
+  pub bits : (t : ℕ) → getD flags t 0 ≤ 1
+  pub vacant-words : (t : ℕ) → getD flags t 0 ≡ 0 → getD words t 0 ≡ 0
+
+-- what is occupied stays so, with its word
+pub record Kept (words flags words' flags' : List ℕ) (t : ℕ) : Type 0 where
+  pub stays : Occupied flags' t
+  pub word : getD words' t 0 ≡ getD words t 0
+
+-- two buffers of n
+pub record Sized (n : ℕ) (words flags : List ℕ) : Type 0 where
+  pub words-n : length words ≡ n
+  pub flags-n : length flags ≡ n
+
+sized-set : {n : ℕ} {words flags : List ℕ} (s v : ℕ) → Sized n words flags → Sized n (set words s v) (set flags s 1)
+sized-set s v z = record { words-n = simp length-set (z .words-n); flags-n = simp length-set (z .flags-n) }
+
 module _ (table : FunnelTable) (counts : List ℕ) (below : (identity : ℕ) → Below (table .n) (tablePath table counts identity .places)) where
-  -- two buffers of n
-  record Sized (words flags : List ℕ) : Type 0 where
-    words-n : length words ≡ table .n
-    flags-n : length flags ≡ table .n
-
-  sized-set : {words flags : List ℕ} (s v : ℕ) → Sized words flags → Sized (set words s v) (set flags s 1)
-  sized-set s v z = record { words-n = simp length-set (z .words-n); flags-n = simp length-set (z .flags-n) }
-
   -- the slot of a store is in both buffers, and vacant
   record Slot (words flags : List ℕ) (s : ℕ) : Type 0 where
     in-words : s < length words
     in-flags : s < length flags
     vacant : getD flags s 0 ≡ 0
 
-  slot-of : {words flags : List ℕ} (identity s probes : ℕ) (place : Place) → Sized words flags → slotOf place ≡ s → findOf table counts words flags identity ≡ Vacant probes place → Slot words flags s
+  slot-of : {words flags : List ℕ} (identity s probes : ℕ) (place : Place) → Sized (table .n) words flags → slotOf place ≡ s → findOf table counts words flags identity ≡ Vacant probes place → Slot words flags s
   slot-of {words} {flags} identity s probes place z at f =
       let b = find-below table counts words flags identity probes place f (table .n) (below identity) in
       let v = find-vacancy table counts words flags identity probes place f in
@@ -80,12 +90,7 @@ module _ (table : FunnelTable) (counts : List ℕ) (below : (identity : ℕ) →
   fills-flags still h = h
   fills-flags (store identity s probes place at f room r) h = fills-flags r (simp length-set h)
 
-  -- what is occupied stays so, with its word
-  pub record Kept (words flags words' flags' : List ℕ) (t : ℕ) : Type 0 where
-    pub stays : Occupied flags' t
-    pub word : getD words' t 0 ≡ getD words t 0
-
-  kept : {k k' : ℕ} {words flags words' flags' : List ℕ} → Fills table counts k words flags k' words' flags' → Sized words flags → (t : ℕ) → Occupied flags t → Kept words flags words' flags' t
+  kept : {k k' : ℕ} {words flags words' flags' : List ℕ} → Fills table counts k words flags k' words' flags' → Sized (table .n) words flags → (t : ℕ) → Occupied flags t → Kept words flags words' flags' t
   kept still z t o = record { stays = o; word = refl }
   kept {words = words} {flags = flags} (store identity s probes place at f room r) z t o =
       let l = slot-of identity s probes place z at f in
@@ -94,19 +99,14 @@ module _ (table : FunnelTable) (counts : List ℕ) (below : (identity : ℕ) →
       record { stays = n .stays; word = n .word ∙ getD-set-other words s t identity 0 d }
 
   -- the count is the number of members, and never above the maximum
-  fills-members : {k k' : ℕ} {words flags words' flags' : List ℕ} → Fills table counts k words flags k' words' flags' → Sized words flags → members flags ≡ k → k ≤ table .plan .maximum
+  pub fills-members : {k k' : ℕ} {words flags words' flags' : List ℕ} → Fills table counts k words flags k' words' flags' → Sized (table .n) words flags → members flags ≡ k → k ≤ table .plan .maximum
       → members flags' ≤ table .plan .maximum
   fills-members still z m h = omega arith
   fills-members {k} {flags = flags} (store identity s probes place at f room r) z m h =
       let l = slot-of identity s probes place z at f in
       fills-members r (sized-set s identity z) (members-set flags s (l .in-flags) (l .vacant) ∙ ap (λ (x : ℕ). x + 1) m) (omega arith)
 
-  -- flags 0 and 1, and no word where nothing is
-  pub record Clean (words flags : List ℕ) : Type 0 where
-    pub bits : (t : ℕ) → getD flags t 0 ≤ 1
-    pub vacant-words : (t : ℕ) → getD flags t 0 ≡ 0 → getD words t 0 ≡ 0
-
-  fills-clean : {k k' : ℕ} {words flags words' flags' : List ℕ} → Fills table counts k words flags k' words' flags' → Sized words flags → Clean words flags → Clean words' flags'
+  pub fills-clean : {k k' : ℕ} {words flags words' flags' : List ℕ} → Fills table counts k words flags k' words' flags' → Sized (table .n) words flags → Clean words flags → Clean words' flags'
   fills-clean still z c = c
   fills-clean {words = words} {flags = flags} (store identity s probes place at f room r) z c =
       let l = slot-of identity s probes place z at f in
@@ -123,7 +123,7 @@ module _ (table : FunnelTable) (counts : List ℕ) (below : (identity : ℕ) →
   -- first that is not would be ready, since every slot that its insertion passed is placed with the same word, and its own is not.
   module _ (words flags marks : List ℕ) (placed : ℕ) (below-maximum : placed < table .plan .maximum)
       (stuck : (s : ℕ) → s < table .n → ready table counts words flags marks placed s ≡ false) where
-    step : {v g : List ℕ} (identity s probes : ℕ) (place : Place) → Sized v g → slotOf place ≡ s → findOf table counts v g identity ≡ Vacant probes place
+    step : {v g : List ℕ} (identity s probes : ℕ) (place : Place) → Sized (table .n) v g → slotOf place ≡ s → findOf table counts v g identity ≡ Vacant probes place
         → Occupied flags s → getD words s 0 ≡ identity → Inside v g words marks → Inside (set v s identity) (set g s 1) words marks
     step {v} {g} identity s probes place z at f o same i = go (ℕ-discrete (getD marks s 0) 0)
       where
@@ -145,7 +145,7 @@ module _ (table : FunnelTable) (counts : List ℕ) (below : (identity : ℕ) →
                   (λ q. i .same t (rw (getD-set-other g s t 1 0 q) at u));
             }
 
-    inside : {k k' : ℕ} {v g v' g' : List ℕ} → Fills table counts k v g k' v' g' → Sized v g → PartOf v' g' words flags → Inside v g words marks → Inside v' g' words marks
+    pub inside : {k k' : ℕ} {v g v' g' : List ℕ} → Fills table counts k v g k' v' g' → Sized (table .n) v g → PartOf v' g' words flags → Inside v g words marks → Inside v' g' words marks
     inside still z p i = i
     inside {v = v} {g = g} (store identity s probes place at f room r) z p i =
         let l = slot-of identity s probes place z at f in

@@ -1,3 +1,4 @@
+pub mod EndLaws
 pub mod FillLaws
 pub mod Made
 pub mod MadeLaws
