@@ -1,3 +1,5 @@
+pub mod Crossed
+pub mod Demand
 pub mod EndLaws
 pub mod FillLaws
 pub mod Made

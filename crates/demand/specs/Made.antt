@@ -1,5 +1,6 @@
 -- What it is that an order of insertions leaves an image, and that an image is made. Assumes nothing.
 use mathlib.Core.List.{List, [], _∷_}
+use mathlib.Core.Logic.{_⊎_}
 use mathlib.Core.Path.{_≡_}
 use Prim.Native.Nat.{ℕ, _+_, _<_}
 use lib.ListN.{getD, replicate}
@@ -57,3 +58,8 @@ unfoldable pub placedWords : (words marks : List ℕ) → List ℕ
 placedWords [] marks = []
 placedWords (word ∷ words) [] = []
 placedWords (word ∷ words) (mark ∷ marks) = pick (eqb mark 0) 0 word ∷ placedWords words marks
+
+-- a path comes to slot b before it comes to slot a
+abbrev pub Before : (b a : ℕ) → List Place → Type 0
+Before b a [] = ⊥
+Before b a (p ∷ places) = (slotOf p ≡ b) ⊎ ((slotOf p ≡ a → ⊥) × Before b a places)
