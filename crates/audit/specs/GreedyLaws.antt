@@ -17,6 +17,7 @@ use Rattle.funnel.specs.Valid.{Valid}
 use Rattle.audit.specs.declared.slots.First.{First}
 use Rattle.audit.specs.declared.slots.First.the-variants.{At, Nothing}
 use Rattle.audit.specs.Greedy.{firstFrom, ready, Taken, taken, byFirst, greedyOf}
+use Rattle.audit.specs.Going.{Going}
 use Rattle.audit.specs.FirstLaws.{Found, first-at, first-found, first-none, first-all}
 use Rattle.audit.specs.ReadyLaws.{ready-marked}
 use Rattle.audit.specs.OrdinaryLaws.{ready-later}
@@ -43,13 +44,6 @@ first-skip test start n l quiet = go (firstFrom test start (n - start)) refl
         by : (t : ℕ) (x : Bool) → ltb t start ≡ x → t < s → ((t : ℕ) → start ≤ t → t < s → test t ≡ false) → test t ≡ false
         by t true q b before = quiet t (ltb-true _ _ q)
         by t false q b before = let c : start ≤ t = ltb-false _ _ q in before t (omega arith) b
-
--- on the way to the whole, with no ready slot among the first i
-pub record Going (whole : Taken) (table : FunnelTable) (counts words flags marks order : List ℕ) (placed i : ℕ) : Type 0 where
-  pub left : whole ≡ greedyOf table counts words flags (table .n) (table .n - placed) marks order placed
-  pub quiet : (t : ℕ) → t < i → ready table counts words flags marks placed t ≡ false
-  pub marks-n : length marks ≡ table .n
-  pub order-n : length order ≡ table .n
 
 pub going-none : (table : FunnelTable) (counts words flags marks order : List ℕ) → length marks ≡ table .n → length order ≡ table .n
     → Going (greedyOf table counts words flags (table .n) (table .n) marks order 0) table counts words flags marks order 0 0

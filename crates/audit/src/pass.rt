@@ -4,12 +4,13 @@ ghost use mathlib.Core.Path.{_≡_};
 ghost use Prim.Native.Nat.{_-_, _≤_};
 ghost use lib.ListN.{length, replicate};
 ghost use Rattle.audit.specs.Greedy.{taken, greedyOf};
-ghost use Rattle.audit.specs.GreedyLaws.{Going};
+ghost use Rattle.audit.specs.Going.{Going};
 ghost use Rattle.funnel.specs.Path.{primaryStart};
 ghost use Rattle.funnel.specs.Valid.{Valid};
 use crate::ready::is_ready;
 use crate::ready::next_ready;
-use crate::slots::{clear, First};
+use crate::slots::First;
+use crate::slots::clear;
 use funnel::table::FunnelTable;
 
 // Takes from empty marks what can be taken, in 01's order: how many.

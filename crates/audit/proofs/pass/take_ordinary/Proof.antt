@@ -4,7 +4,8 @@ use native.Mathlib.Omega.{arith}
 use mathlib.Core.Path.{_≡_, sym, _∙_}
 use borrow.Author.Needs.{needs}
 use Rattle.audit.specs.Greedy.{greedyOf}
-use Rattle.audit.specs.GreedyLaws.{Going, going-none, going-skip, going-rise, valid-marks}
+use Rattle.audit.specs.Going.{Going}
+use Rattle.audit.specs.GreedyLaws.{going-none, going-skip, going-rise, valid-marks}
 use Rattle.audit.proofs.pass.take_ordinary.Statement.{statement}
 use Rattle.audit.proofs.pass.take_ordinary.Tie as tie
 

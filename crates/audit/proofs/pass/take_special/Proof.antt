@@ -5,7 +5,8 @@ use mathlib.Core.Path.{_≡_, sym, _∙_}
 use borrow.Author.Needs.{needs}
 use Rattle.audit.specs.Greedy.{greedyOf}
 use Rattle.audit.specs.FirstLaws.{first-found}
-use Rattle.audit.specs.GreedyLaws.{Going, going-special, going-stop, going-end, valid-marks}
+use Rattle.audit.specs.Going.{Going}
+use Rattle.audit.specs.GreedyLaws.{going-special, going-stop, going-end, valid-marks}
 use Rattle.audit.proofs.pass.take_special.Statement.{statement}
 use Rattle.audit.proofs.pass.take_special.Tie as tie
 
