@@ -4,7 +4,8 @@ use Prim.Native.Nat.{ℕ, zero, suc, _+_, _-_, _*_, _/_, _^_, _≤_, _<_, min}
 use lib.ListN.{getD, take}
 use lib.Dec.{eqb, ltb}
 use mathlib.Core.Bool.{Bool, true, false}
-use Rattle.words.specs.Log.{ceilLog2, pickNat}
+use Rattle.words.specs.Log.{ceilLog2}
+use Rattle.words.specs.Pick.{pick}
 use Rattle.refusal.specs.Table.{nameOf, Report, answered, refused}
 use Rattle.geometry.specs.declared.config.Gated.{Gated}
 use Rattle.geometry.specs.declared.config.Gated.the-variants.{Passed, Refused}
@@ -73,7 +74,7 @@ total (x ∷ xs) = x + total xs
 -- "the batch is the first whose quota prefix exceeds the count": the batches from batch b on, with so many of the count left to them
 unfoldable pub batchFrom : (b count : ℕ) → List ℕ → ℕ
 batchFrom b count [] = b
-batchFrom b count (q ∷ qs) = pickNat (ltb count q) b (batchFrom (b + 1) (count - q) qs)
+batchFrom b count (q ∷ qs) = pick (ltb count q) b (batchFrom (b + 1) (count - q) qs)
 
 unfoldable pub batchOf : (n e count : ℕ) → ℕ
 batchOf n e count = batchFrom 0 count (quotasOf n e)

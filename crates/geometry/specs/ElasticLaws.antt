@@ -7,7 +7,8 @@ use native.Mathlib.Nat.{pow-suc, pow-zero, div-div-eq-div-mul, div-le-self, le-d
 use lib.ListN.{length, getD, take, drop}
 use lib.Pow.{pow-pos, pow-mono}
 use lib.Count.{leadingZeros}
-use Rattle.words.specs.Log.{ceilLog2, firstFrom, CeilLog2, pickNat}
+use Rattle.words.specs.Log.{ceilLog2, firstFrom, CeilLog2}
+use Rattle.words.specs.Pick.{pick}
 use Rattle.words.specs.LogLaws.{log-leading, log-computed}
 use Rattle.geometry.specs.Config.{Configured, configGate, maximum}
 use mathlib.Core.Bool.{Bool, true, false}
@@ -406,7 +407,7 @@ batch-found b count [] h = absurd (omega arith)
 batch-found b count (q ∷ qs) h = go (ltb count q) refl (λ l. batch-found (b + 1) (count - q) qs (omega (arith, l)))
   where
     go : (x : Bool) → ltb count q ≡ x → (q ≤ count → (k : ℕ) × (batchFrom (b + 1) (count - q) qs ≡ b + 1 + k) × (k < length qs) × IsBatch qs (count - q) k)
-        → (k : ℕ) × (pickNat x b (batchFrom (b + 1) (count - q) qs) ≡ b + k) × (k < suc (length qs)) × IsBatch (q ∷ qs) count k
+        → (k : ℕ) × (pick x b (batchFrom (b + 1) (count - q) qs) ≡ b + k) × (k < suc (length qs)) × IsBatch (q ∷ qs) count k
     go true e r = let l = ltb-true count q e in (0, omega arith, omega arith, record { exceeds = omega arith; first = λ j g. absurd (omega arith) })
     go false e r =
         let l = ltb-false count q e in
