@@ -8,3 +8,6 @@ pub mod WordLaws
 pub mod Range
 pub mod RangeLaws
 pub mod Uniform
+pub mod Budget
+pub mod BudgetLaws
+pub mod Vectors
