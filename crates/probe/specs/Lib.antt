@@ -10,4 +10,17 @@ pub mod RangeLaws
 pub mod Uniform
 pub mod Budget
 pub mod BudgetLaws
+pub mod Length
+pub mod LengthLaws
+pub mod Phi
+pub mod PhiLaws
+pub mod OrderLaws
+pub mod TreeLaws
+pub mod Wide
+pub mod WideLaws
+pub mod Spread
+pub mod SpreadLaws
+pub mod Position
+pub mod PositionLaws
+pub mod BoundedLaws
 pub mod Vectors

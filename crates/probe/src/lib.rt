@@ -12,6 +12,7 @@
 //     word.rt      keys and words
 //     range.rt     reduction of words to an index
 //     phi.rt       phi, its bounded form and its inverse
+//     wide.rt      numbers of two words
 //     budget.rt    how many probes a batch may spend in its current level
 //
 // Public functions refuse what 01 says they refuse, and require nothing. The tables use the cores beside them, which
@@ -20,5 +21,7 @@
 pub mod budget;
 pub mod counter;
 pub mod mix;
+pub mod phi;
 pub mod range;
+pub mod wide;
 pub mod word;

@@ -1,0 +1,106 @@
+// replay: reads a script of calls, one command a line, and prints every answer. The same commands fed to the oracle,
+// the Rust beside this repository, give the same lines; a sample of its answers is this program's stored output.
+//
+//     layouts.rt   EL FL
+//     probes.rt    MIX EP FP EW FW ER FR PHI PHB PHINV BUD
+//
+// A line that is no command prints `?`. A line longer than 524,288 bytes, or a table of more than 65,536 slots, is more
+// than this program holds, and prints `L`.
+mod layouts;
+mod print;
+mod probes;
+
+use text::field::field_after;
+use text::field::field_end;
+use text::field::is_word;
+use text::line::Gathered;
+use text::line::gather;
+use text::out::flush;
+use text::out::put;
+use text::out::put_byte;
+
+// The longest line; its buffer holds one byte more, which tells a longer one.
+const LONGEST: usize = 524288;
+
+// How far the program is: the bytes of the line so far, and the place in the output.
+struct Progress {
+    length: usize,
+    at: usize,
+}
+
+fn main() {
+    let mut chunk = io::large_buffer();
+    let mut out = io::large_buffer();
+    let mut line = [0u8; 524289];
+    let mut now = Progress { length: 0, at: 0 };
+    // A proved loop ends; nobody feeds it this often.
+    let mut turns = u64::MAX;
+    while 0 < turns {
+        let got = libc::read(libc::STDIN_FILENO, &mut chunk);
+        let n = io::count(got, &chunk);
+        if n == 0 {
+            finish(&line, &mut out, now);
+            return;
+        }
+        now = take(&chunk[..n], &mut line, &mut out, now);
+        turns -= 1;
+    }
+}
+
+// The last line may lack its newline.
+fn finish(line: &[u8], out: &mut [u8], now: Progress) {
+    if 0 < now.length {
+        let at = answer(line, now.length, out, now.at);
+        flush(out, at);
+        return;
+    }
+    flush(out, now.at);
+}
+
+// Takes a part of the input, and answers each line that ends in it.
+fn take(part: &[u8], line: &mut [u8], out: &mut [u8], before: Progress) -> Progress {
+    let mut now = before;
+    let mut from = 0;
+    while from < part.len() {
+        let got = gather(part, from, line, now.length);
+        from = got.next;
+        now = settle(line, out, got, now.at);
+    }
+    now
+}
+
+// Answers a line that ended.
+fn settle(line: &[u8], out: &mut [u8], got: Gathered, at: usize) -> Progress {
+    if got.ended {
+        return Progress {
+            length: 0,
+            at: answer(line, got.length, out, at),
+        };
+    }
+    Progress {
+        length: got.length,
+        at,
+    }
+}
+
+// The answer to a line of a length, with its newline.
+fn answer(line: &[u8], length: usize, out: &mut [u8], at: usize) -> usize {
+    if LONGEST < length {
+        return put(out, at, b"L\n");
+    }
+    if line.len() < length {
+        return put(out, at, b"L\n");
+    }
+    let to = command(&line[..length], out, at);
+    put_byte(out, to, b'\n')
+}
+
+// The answer to a command: its first field names it, the others are its arguments.
+fn command(line: &[u8], out: &mut [u8], at: usize) -> usize {
+    let end = field_end(line, 0);
+    let args = field_after(line, end);
+    if is_word(line, 0, end, b"EL") {
+        return layouts::elastic(line, args, out, at);
+    }
+    probes::command(line, end, args, out, at)
+}

@@ -1,0 +1,122 @@
+// MIX EP FP EW FW ER FR PHI PHB PHINV BUD: the leaves.
+use crate::print;
+use probe::counter::Domain;
+use probe::counter::PackedCounter;
+use probe::counter::elastic_counter;
+use probe::counter::funnel_counter;
+use probe::mix::mix64;
+use probe::range::Reduced;
+use probe::range::elastic_reduce;
+use probe::range::funnel_reduce;
+use probe::word::ProbeWord;
+use probe::word::elastic_word;
+use probe::word::funnel_word;
+use refusal::Name;
+use text::field::is_word;
+use text::field::numbers;
+use text::out::put_decimal;
+use text::out::put_field;
+
+// A domain by its tag and level, of which a special one has none.
+enum Named {
+    Is(Domain),
+    Unknown,
+}
+
+// A command whose arguments are numbers of one word.
+pub fn command(line: &[u8], end: usize, args: usize, out: &mut [u8], at: usize) -> usize {
+    let mut a = [0u64; 7];
+    let row = numbers(line, args, &mut a);
+    if !row.good || row.next <= line.len() {
+        return print::unknown(out, at);
+    }
+    let count = row.count;
+    if count == 1 && is_word(line, 0, end, b"MIX") {
+        return put_decimal(out, at, mix64(a[0]));
+    }
+    if count == 3 && is_word(line, 0, end, b"EP") {
+        return put_packed(elastic_counter(a[0], a[1], a[2]), out, at);
+    }
+    if count == 4 && is_word(line, 0, end, b"FP") {
+        return funnel_packed(a, out, at);
+    }
+    if count == 5 && is_word(line, 0, end, b"EW") {
+        return put_word(elastic_word(a[0], a[1], a[2], a[3], a[4]), out, at);
+    }
+    if count == 6 && is_word(line, 0, end, b"FW") {
+        return word_of_funnel(a, out, at);
+    }
+    if count == 6 && is_word(line, 0, end, b"ER") {
+        return put_reduced(elastic_reduce(a[0], a[1], a[2], a[3], a[4], a[5]), out, at);
+    }
+    if count == 7 && is_word(line, 0, end, b"FR") {
+        return reduced_of_funnel(a, out, at);
+    }
+    print::unknown(out, at)
+}
+
+fn domain(tag: u64, level: u64) -> Named {
+    if tag == 0 {
+        return Named::Is(Domain::Ordinary { level });
+    }
+    if level != 0 {
+        return Named::Unknown;
+    }
+    if tag == 1 {
+        return Named::Is(Domain::Primary);
+    }
+    if tag == 2 {
+        return Named::Is(Domain::FallbackA);
+    }
+    if tag == 3 {
+        return Named::Is(Domain::FallbackB);
+    }
+    Named::Unknown
+}
+
+fn funnel_packed(a: [u64; 7], out: &mut [u8], at: usize) -> usize {
+    match domain(a[0], a[1]) {
+        Named::Unknown => print::unknown(out, at),
+        Named::Is(d) => put_packed(funnel_counter(d, a[2], a[3]), out, at),
+    }
+}
+
+fn word_of_funnel(a: [u64; 7], out: &mut [u8], at: usize) -> usize {
+    match domain(a[2], a[3]) {
+        Named::Unknown => print::unknown(out, at),
+        Named::Is(d) => put_word(funnel_word(a[0], a[1], d, a[4], a[5]), out, at),
+    }
+}
+
+fn reduced_of_funnel(a: [u64; 7], out: &mut [u8], at: usize) -> usize {
+    match domain(a[2], a[3]) {
+        Named::Unknown => print::unknown(out, at),
+        Named::Is(d) => put_reduced(funnel_reduce(a[0], a[1], d, a[4], a[5], a[6]), out, at),
+    }
+}
+
+fn put_packed(packed: PackedCounter, out: &mut [u8], at: usize) -> usize {
+    match packed {
+        PackedCounter::Counter => print::refused(Name::Counter, out, at),
+        PackedCounter::Packed(counter) => put_decimal(out, at, counter),
+    }
+}
+
+fn put_word(word: ProbeWord, out: &mut [u8], at: usize) -> usize {
+    match word {
+        ProbeWord::Counter => print::refused(Name::Counter, out, at),
+        ProbeWord::Word(w) => put_decimal(out, at, w),
+    }
+}
+
+fn put_reduced(reduced: Reduced, out: &mut [u8], at: usize) -> usize {
+    match reduced {
+        Reduced::Upper => print::refused(Name::Upper, out, at),
+        Reduced::Counter => print::refused(Name::Counter, out, at),
+        Reduced::Range(range) => print::range(range, out, at),
+        Reduced::Index { index, words } => {
+            let to = put_decimal(out, at, index);
+            put_field(out, to, words)
+        }
+    }
+}
