@@ -14,4 +14,5 @@
 //     insert.rt    the choice of the levels, and the insertion
 //     query.rt     the query, by mapped positions alone
 
+pub mod route;
 pub mod state;

@@ -179,7 +179,13 @@ fn elastic(n: u64, e: u32, out: &mut [u8], at: usize) -> usize {
 }
 
 // length:quota for each level.
-fn put_levels(levels: u64, lengths: &[u64; 32], quotas: &[u64; 32], out: &mut [u8], at: usize) -> usize {
+fn put_levels(
+    levels: u64,
+    lengths: &[u64; 32],
+    quotas: &[u64; 32],
+    out: &mut [u8],
+    at: usize,
+) -> usize {
     put_pairs(out, at, levels, lengths, quotas)
 }
 

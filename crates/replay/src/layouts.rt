@@ -31,7 +31,6 @@ pub fn elastic(line: &[u8], args: usize, out: &mut [u8], at: usize) -> usize {
     }
 }
 
-
 fn put_levels(
     levels: u64,
     lengths: &[u64; 32],

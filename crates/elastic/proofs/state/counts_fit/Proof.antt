@@ -39,7 +39,7 @@ module _ (n levels count : ℕ) (cs : List ℕ) (rest left i : ℕ) (k : Countin
         let m : levels - i - 1 ≡ levels - (i + 1) = omega arith in
         record {
           same = k .same ∙ ap (countsFit (split (levels - i) rest) left) front
-            ∙ rw (a, ← m) (counts-step (levels - i) rest left (getD cs i 0) (drop (i + 1) cs) (rw a at g) f);
+              ∙ rw (a, ← m) (counts-step (levels - i) rest left (getD cs i 0) (drop (i + 1) cs) (rw a at g) f);
           size = k .size;
         }
 
