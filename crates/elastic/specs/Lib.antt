@@ -1,3 +1,5 @@
+pub mod Insert
+pub mod InsertLaws
 pub mod Reading
 pub mod ReadingLaws
 pub mod State

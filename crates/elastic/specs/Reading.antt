@@ -33,7 +33,7 @@ abbrev pub vacantAt : List ℕ → ℕ → Bool
 vacantAt fs slot = eqb (getD fs slot 0) 0
 
 -- an occupied slot with that identity
-abbrev pub holdsAt : (ws fs : List ℕ) (id slot : ℕ) → Bool
+unfoldable pub holdsAt : (ws fs : List ℕ) (id slot : ℕ) → Bool
 holdsAt ws fs id slot = pick (vacantAt fs slot) false (eqb (getD ws slot 0) id)
 
 -- one probe of a search: refused, at a vacancy, or on to the later ones

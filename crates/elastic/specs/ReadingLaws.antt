@@ -144,12 +144,15 @@ seek-vacant {n} {last} {cap} {level} p key fs tries s probe h = go tries 0 (omeg
 -- ---- scans
 
 pub holds-vacant : (ws fs : List ℕ) (id slot : ℕ) → getD fs slot 0 ≡ 0 → false ≡ holdsAt ws fs id slot
+unfolding holdsAt
 holds-vacant ws fs id slot h = rw (eq-eqb (getD fs slot 0) 0 h)
 
 pub holds-word : (ws fs : List ℕ) (id slot : ℕ) → (getD fs slot 0 ≡ 0 → ⊥) → eqb (getD ws slot 0) id ≡ holdsAt ws fs id slot
+unfolding holdsAt
 holds-word ws fs id slot h = rw (ne-eqb (getD fs slot 0) 0 h)
 
 holds-other : (ws fs : List ℕ) (id slot : ℕ) → (getD ws slot 0 ≡ id → ⊥) → holdsAt ws fs id slot ≡ false
+unfolding holdsAt
 holds-other ws fs id slot h = go (vacantAt fs slot)
   where
     go : (x : Bool) → pick x false (eqb (getD ws slot 0) id) ≡ false

@@ -14,5 +14,6 @@
 //     insert.rt    the choice of the levels, and the insertion
 //     query.rt     the query, by mapped positions alone
 
+pub mod insert;
 pub mod route;
 pub mod state;

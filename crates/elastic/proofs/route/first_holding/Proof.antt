@@ -1,42 +1,38 @@
+-- `elastic::route::first_holding` meets its contract. The loop's invariant: the scan from here on gives what the whole gives. Assumes nothing.
+use mathlib.Core.Path.{sym, _∙_}
+use Prim.Native.Nat.{_-_}
+use native.Mathlib.Omega.{arith}
+use lib.ListN.{length}
+use Rattle.elastic.specs.ReadingLaws.{Scanned, scanned-start, scanned-here, scanned-on, scanned-end}
 use Rattle.elastic.proofs.route.first_holding.Statement.{statement}
 use Rattle.elastic.proofs.route.first_holding.Tie as tie
-use Rattle.elastic.proofs.route.first_holding.Reads as reads
-use Rattle.elastic.proofs.route.first_holding.Lts as lts
-use Rattle.elastic.proofs.route.holds.Reads as holds-reads
 
 abbrev Inv-loop : tie.InvT-loop
-Inv-loop words flags id i₀ i = ?
+Inv-loop words flags id i₀ i = Scanned words flags id i
 
 abbrev μ-loop : tie.MeasureT-loop
-μ-loop words flags id i₀ i = ?
+μ-loop words flags id i₀ i = length words - i
 
--- src/route.rt:124:5
 loop-holds : tie.Need-loop-holds Inv-loop μ-loop
-loop-holds c = ?
+loop-holds c = scanned-start _ _ _
 
--- src/route.rt:125:12
 holds-requires : tie.Need-holds-requires Inv-loop μ-loop
-holds-requires c κs = ?
+holds-requires c κs = (c .loop-test .taken, omega (arith, c .before .before .before .before .pre))
 
--- src/route.rt:126:13
 returns : tie.Need-returns Inv-loop μ-loop
-returns c = ?
+returns c = scanned-here _ _ _ _ (c .before .before .before .loop .inv) (c .before .before .loop-test .taken) (sym (c .before .holds .ensures) ∙ c .if1 .taken)
 
--- src/route.rt:128:9
 add-i : tie.Need-add-i Inv-loop μ-loop
-add-i c = ?
+add-i c = omega arith
 
--- src/route.rt:124:5
 loop-less : tie.Need-loop-less Inv-loop μ-loop
-loop-less c = ?
+loop-less c = omega arith
 
--- src/route.rt:124:5
 loop-again : tie.Need-loop-again Inv-loop μ-loop
-loop-again c = ?
+loop-again c = scanned-on _ _ _ _ (c .before .before .before .loop .inv) (c .before .before .loop-test .taken) (sym (c .before .holds .ensures) ∙ c .if1 .left)
 
--- src/route.rt:119:1
 returns-2 : tie.Need-returns-2 Inv-loop μ-loop
-returns-2 c = ?
+returns-2 c = scanned-end _ _ _ _ (c .before .loop .inv) (c .loop-test .left)
 
 pub first-holding-spec : {M : Type 1} → statement M
 first-holding-spec =

@@ -1,50 +1,51 @@
+-- `elastic::route::hits` meets its contract. The loop's invariant: where nothing was found yet, no word so far is the identity. Assumes nothing.
+use mathlib.Core.Path.{_≡_}
+use Prim.Native.Nat.{_-_, _≤_}
+use native.Mathlib.Omega.{arith}
+use borrow.Author.Needs.{needs}
+use denote.Ref.{now}
+use lib.ListN.{length}
+use Rattle.elastic.specs.Reading.{Without}
+use Rattle.elastic.specs.ReadingLaws.{without-start, without-more}
 use Rattle.elastic.proofs.route.hits.Statement.{statement}
 use Rattle.elastic.proofs.route.hits.Tie as tie
-use Rattle.elastic.proofs.route.hits.Reads as reads
-use Rattle.elastic.proofs.route.hits.Lts as lts
-use Rattle.elastic.proofs.route.same.Reads as same-reads
 
 abbrev Inv-loop : tie.InvT-loop
-Inv-loop words id found₀ i₀ found i = ?
+Inv-loop words id found₀ i₀ found i = (found ≤ i) × (i ≤ length words) × (found ≡ 0 → Without words id i)
 
 abbrev μ-loop : tie.MeasureT-loop
-μ-loop words id found₀ i₀ found i = ?
+μ-loop words id found₀ i₀ found i = length words - i
 
--- src/route.rt:111:5
 loop-holds : tie.Need-loop-holds Inv-loop μ-loop
-loop-holds c = ?
+loop-holds c = (omega arith, omega arith, λ z. without-start _ _)
 
--- src/route.rt:112:23
 mul-same : tie.Need-mul-same Inv-loop μ-loop
-mul-same c = ?
+mul-same c = omega (arith, c .before .before .before .good .0 .1)
 
--- src/route.rt:112:23
 shared-slice-read-same : tie.Need-shared-slice-read-same Inv-loop μ-loop
-shared-slice-read-same c = ?
+shared-slice-read-same c = omega arith
 
--- src/route.rt:112:18
 same-requires : tie.Need-same-requires Inv-loop μ-loop
-same-requires c κs = ?
+same-requires c κs = search needs
 
--- src/route.rt:112:9
 add-found : tie.Need-add-found Inv-loop μ-loop
-add-found c = ?
+add-found c = omega (arith, c .same .ensures .0, c .before .before .loop-test .taken)
 
--- src/route.rt:113:9
 add-i : tie.Need-add-i Inv-loop μ-loop
-add-i c = ?
+add-i c = omega arith
 
--- src/route.rt:111:5
 loop-less : tie.Need-loop-less Inv-loop μ-loop
-loop-less c = ?
+loop-less c = omega arith
 
--- src/route.rt:111:5
 loop-again : tie.Need-loop-again Inv-loop μ-loop
-loop-again c = ?
+loop-again c =
+    (omega (arith, c .same .ensures .0), omega arith, λ z. without-more _ _ _ (c .before .before .before .loop .inv .2 (omega (arith, z))) (c .same .ensures .1 (omega (arith, z))))
 
--- src/route.rt:106:1
 returns : tie.Need-returns Inv-loop μ-loop
-returns c = ?
+returns c z =
+    let v = c .before .loop .inv in
+    let e : c .before .loop .i ≡ length (now (c .before .before .before .args .words)) = omega arith in
+    rw (← e) (v .2 z)
 
 pub hits-spec : {M : Type 1} → statement M
 hits-spec =

@@ -1,28 +1,23 @@
+-- `elastic::route::holds` meets its contract. Assumes nothing.
+use Rattle.elastic.specs.ReadingLaws.{holds-vacant, holds-word}
 use borrow.Author.Needs.{needs}
 use Rattle.elastic.proofs.route.holds.Statement.{statement}
 use Rattle.elastic.proofs.route.holds.Tie as tie
-use Rattle.elastic.proofs.route.holds.Reads as reads
-use Rattle.elastic.proofs.route.holds.Lts as lts
 
--- src/route.rt:80:8
 shared-slice-read-if1 : tie.Need-shared-slice-read-if1
 shared-slice-read-if1 c = search needs
 
--- src/route.rt:81:9
 returns : tie.Need-returns
-returns c = ?
+returns c = holds-vacant _ _ _ _ (c .if1 .taken)
 
--- src/route.rt:83:5
 mul-result : tie.Need-mul-result
 mul-result c = search needs
 
--- src/route.rt:83:5
 shared-slice-read-result : tie.Need-shared-slice-read-result
 shared-slice-read-result c = search needs
 
--- src/route.rt:76:1
 returns-2 : tie.Need-returns-2
-returns-2 c = ?
+returns-2 c = holds-word _ _ _ _ (c .before .if1 .left)
 
 pub holds-spec : {M : Type 1} → statement M
 holds-spec =

@@ -1,48 +1,58 @@
+-- `elastic::route::route` meets its contract: offset and length are the level's, and the draw is within it. Assumes nothing.
+use mathlib.Core.Path.{_≡_, ap, _∙_}
+use Prim.Native.Nat.{ℕ}
+use native.Mathlib.Omega.{arith}
+use Rattle.probe.specs.Range.{drawOf}
+use Rattle.elastic.specs.ReadingLaws.{probed-few, probed-offset, probed-length, probed-some, probed-within, reading-index, reading-refused, index-drew}
 use borrow.Author.Needs.{needs}
 use Rattle.elastic.proofs.route.route.Statement.{statement}
 use Rattle.elastic.proofs.route.route.Tie as tie
-use Rattle.elastic.proofs.route.route.Reads as reads
-use Rattle.elastic.proofs.route.route.Lts as lts
-use Rattle.geometry.proofs.elastic.level_length.Reads as level-length-reads
-use Rattle.geometry.proofs.elastic.level_offset.Reads as level-offset-reads
-use Rattle.probe.proofs.counter.elastic_base.Reads as elastic-base-reads
-use Rattle.probe.proofs.range.elastic_draw.Reads as elastic-draw-reads
 
--- src/route.rt:38:9
 level-offset-requires : tie.Need-level-offset-requires
 level-offset-requires c κs = search needs
 
--- src/route.rt:39:9
 level-length-requires : tie.Need-level-length-requires
 level-length-requires c κs = search needs
 
--- src/route.rt:40:29
 elastic-base-requires : tie.Need-elastic-base-requires
-elastic-base-requires c κs = ?
+elastic-base-requires c κs = (probed-few (c .before .before .pre .0), c .before .before .pre .1)
 
--- src/route.rt:40:11
 elastic-draw-requires : tie.Need-elastic-draw-requires
-elastic-draw-requires c κs = ?
+elastic-draw-requires c κs =
+    let p = c .before .before .before .pre .0 in
+    let l = probed-length p _ (c .before .level-length .ensures) in
+    (omega (arith, l, probed-some p), omega (arith, c .elastic-base .ensures, probed-few p, c .before .before .before .pre .1, p .few))
 
--- src/route.rt:41:24
 enum-known-index : tie.Need-enum-known-index
 enum-known-index c = search needs
 
--- src/route.rt:43:23
 add-t14 : tie.Need-add-t14
-add-t14 c = ?
+add-t14 c =
+    let p = c .before .before .before .before .before .before .before .pre .0 in
+    let o = probed-offset p _ (c .before .before .before .before .before .before .level-offset .ensures) in
+    let l = probed-length p _ (c .before .before .before .before .before .level-length .ensures) in
+    let d = rw (c .before .before .before .before .elastic-base .ensures) at (c .before .before .before .elastic-draw .ensures) in
+    let f = index-drew p _ _ _ _ o l _ d _ _ (c .before .index .given .1) in
+    omega (arith, f .below, o, l, probed-within p, p .most)
 
--- src/route.rt:42:13
 returns : tie.Need-returns
-returns c = ?
+returns c =
+    let p = c .before .before .before .before .before .before .before .pre .0 in
+    let o = probed-offset p _ (c .before .before .before .before .before .before .level-offset .ensures) in
+    let l = probed-length p _ (c .before .before .before .before .before .level-length .ensures) in
+    let d = rw (c .before .before .before .before .elastic-base .ensures) at (c .before .before .before .elastic-draw .ensures) in
+    reading-index p _ _ _ _ o l _ d _ _ (c .before .index .given .1)
 
--- src/route.rt:47:24
 enum-known-refusal : tie.Need-enum-known-refusal
 enum-known-refusal c = search needs
 
--- src/route.rt:48:13
 returns-2 : tie.Need-returns-2
-returns-2 c = ?
+returns-2 c =
+    let p = c .before .before .before .before .before .before .before .pre .0 in
+    let o = probed-offset p _ (c .before .before .before .before .before .before .level-offset .ensures) in
+    let l = probed-length p _ (c .before .before .before .before .before .level-length .ensures) in
+    let d = rw (c .before .before .before .before .elastic-base .ensures) at (c .before .before .before .elastic-draw .ensures) in
+    reading-refused p _ _ _ _ o l _ d _ (c .before .refusal .given .1)
 
 pub route-spec : {M : Type 1} → statement M
 route-spec =

@@ -1,58 +1,53 @@
+-- `elastic::route::seek` meets its contract. The loop's invariant: the search from here on gives what the whole gives. Assumes nothing.
+use mathlib.Core.Path.{_≡_, sym, _∙_}
+use Prim.Native.Nat.{_-_}
+use native.Mathlib.Omega.{arith}
+use borrow.Author.Needs.{needs}
+use Rattle.elastic.specs.ReadingLaws.{Sought-from, sought-start, sought-refused, sought-vacant, sought-on, sought-end, reading-read}
 use Rattle.elastic.proofs.route.seek.Statement.{statement}
 use Rattle.elastic.proofs.route.seek.Tie as tie
-use Rattle.elastic.proofs.route.seek.Reads as reads
-use Rattle.elastic.proofs.route.seek.Lts as lts
-use Rattle.elastic.proofs.route.route.Reads as route-reads
 
 abbrev Inv-loop : tie.InvT-loop
-Inv-loop key n last cap flags level tries probe₀ probe = ?
+Inv-loop key n last cap flags level tries probe₀ probe = Sought-from n key cap flags level tries probe
 
 abbrev μ-loop : tie.MeasureT-loop
-μ-loop key n last cap flags level tries probe₀ probe = ?
+μ-loop key n last cap flags level tries probe₀ probe = tries - probe
 
--- src/route.rt:59:5
 loop-holds : tie.Need-loop-holds Inv-loop μ-loop
-loop-holds c = ?
+loop-holds c = sought-start _ _ _ _ _ _
 
--- src/route.rt:60:15
 route-requires : tie.Need-route-requires Inv-loop μ-loop
-route-requires c κs = ?
+route-requires c κs = let p = c .before .before .before .pre in (p .probed, omega (arith, p .tries-most, c .loop-test .taken))
 
--- src/route.rt:61:30
 enum-known-refusal : tie.Need-enum-known-refusal Inv-loop μ-loop
-enum-known-refusal c = ?
+enum-known-refusal c = search needs
 
--- src/route.rt:62:17
 returns : tie.Need-returns Inv-loop μ-loop
-returns c = ?
+returns c = sought-refused _ _ _ _ _ _ _ (c .before .before .before .before .before .loop .inv) (c .before .before .before .before .loop-test .taken) _ (sym (c .before .before .before .route .ensures) ∙ c .before .refusal .given .1)
 
--- src/route.rt:64:29
 enum-known-slot : tie.Need-enum-known-slot Inv-loop μ-loop
-enum-known-slot c = ?
+enum-known-slot c = search needs
 
--- src/route.rt:65:20
 shared-slice-read-if1 : tie.Need-shared-slice-read-if1 Inv-loop μ-loop
-shared-slice-read-if1 c = ?
+shared-slice-read-if1 c =
+    let p = c .before .before .before .before .before .before .before .before .pre in
+    let r = reading-read (p .probed) _ _ _ _ (sym (c .before .before .before .before .route .ensures) ∙ c .before .before .slot .given .1) in
+    omega (arith, r .below, p .size)
 
--- src/route.rt:66:21
 returns-2 : tie.Need-returns-2 Inv-loop μ-loop
-returns-2 c = ?
+returns-2 c = sought-vacant _ _ _ _ _ _ _ (c .before .before .before .before .before .before .before .loop .inv) (c .before .before .before .before .before .before .loop-test .taken) _ _ (sym (c .before .before .before .before .before .route .ensures) ∙ c .before .before .before .slot .given .1) (c .if1 .taken)
 
--- src/route.rt:70:9
 add-probe : tie.Need-add-probe Inv-loop μ-loop
-add-probe c = ?
+add-probe c = omega arith
 
--- src/route.rt:59:5
 loop-less : tie.Need-loop-less Inv-loop μ-loop
-loop-less c = ?
+loop-less c = omega arith
 
--- src/route.rt:59:5
 loop-again : tie.Need-loop-again Inv-loop μ-loop
-loop-again c = ?
+loop-again c = sought-on _ _ _ _ _ _ _ (c .before .before .before .before .before .before .before .loop .inv) (c .before .before .before .before .before .before .loop-test .taken) _ _ (sym (c .before .before .before .before .before .route .ensures) ∙ c .before .before .before .slot .given .1) (c .if1 .left)
 
--- src/route.rt:54:1
 returns-3 : tie.Need-returns-3 Inv-loop μ-loop
-returns-3 c = ?
+returns-3 c = sought-end _ _ _ _ _ _ _ (c .before .loop .inv) (c .loop-test .left)
 
 pub seek-spec : {M : Type 1} → statement M
 seek-spec =

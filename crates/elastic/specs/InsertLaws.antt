@@ -1,0 +1,2 @@
+-- Laws of the insertion. Assumes nothing.
+use mathlib.Core.Path.{_≡_, refl}
