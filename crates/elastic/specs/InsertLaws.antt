@@ -1,2 +1,157 @@
 -- Laws of the insertion. Assumes nothing.
-use mathlib.Core.Path.{_≡_, refl}
+use mathlib.Core.Bool.{Bool, true, false}
+use mathlib.Core.List.{List, [], _∷_}
+use mathlib.Core.Path.{_≡_, refl, sym, ap, _∙_}
+use Prim.Native.Nat.{ℕ, zero, suc, _+_, _-_, _*_, _/_, _^_, _≤_, _<_}
+use native.Mathlib.Nat.{mul-le-mul}
+use native.Mathlib.Omega.{arith}
+use lib.Dec.{eqb, ltb, leb}
+use lib.ListN.{length, getD, set}
+use borrow.Author.Tests.{eq-eqb, ne-eqb, lt-ltb, le-ltb, le-leb, lt-leb, eqb-true, eqb-false, leb-true, leb-false}
+use Rattle.refusal.specs.declared.RangeRefusal.{RangeRefusal}
+use Rattle.refusal.specs.declared.Gate.{Gate}
+use Rattle.words.specs.Pick.{pick}
+use Rattle.geometry.specs.declared.config.Gated.{Gated}
+use Rattle.geometry.specs.declared.config.Gated.the-variants as gated
+use Rattle.geometry.specs.Config.{Configured, maximum}
+use Rattle.geometry.specs.Elastic.{levelsOf, lengthsOf, lengthAt, offsetAt, batchFrom, batchOf, quotasOf, cut, laterQuotas, uncutQuotas, split}
+use Rattle.geometry.specs.ElasticLaws.{levels-facts, uncut-later, batch-is}
+use Rattle.probe.specs.Budget.{probesOf}
+use Rattle.probe.specs.Phi.{phi}
+use Rattle.probe.specs.PhiLaws.{phi-bound}
+use Rattle.probe.specs.Position.{boundedOf}
+use Rattle.probe.specs.Word.{elasticKeyOf}
+use Rattle.probe.specs.declared.phi.Bounded.the-variants as bounded
+use Rattle.elastic.specs.declared.state.State.{State}
+use Rattle.elastic.specs.declared.route.Sought.{Sought}
+use Rattle.elastic.specs.declared.route.Sought.the-variants as sought
+use Rattle.elastic.specs.declared.route.Located.{Located}
+use Rattle.elastic.specs.declared.route.Located.the-variants as located
+use Rattle.elastic.specs.declared.insert.Case.{Case}
+use Rattle.elastic.specs.declared.insert.Case.the-variants.{Batch0, Case1, Case2, Case3}
+use Rattle.elastic.specs.declared.insert.Insertion.{Insertion}
+use Rattle.elastic.specs.declared.insert.InsertRefusal.{InsertRefusal}
+use Rattle.elastic.specs.declared.insert.InsertRefusal.the-variants as refusal
+use Rattle.elastic.specs.declared.insert.InsertAnswer.the-variants as answer
+use Rattle.elastic.specs.declared.insert.Chosen.{Chosen}
+use Rattle.elastic.specs.declared.insert.Chosen.the-variants as chosen
+use Rattle.elastic.specs.State.{gateOf, LimitsFacts, Valid, Searching, Pairing, Affordable}
+use Rattle.elastic.specs.Reading.{seekOf, firstOf, Probed, Seekable}
+use Rattle.elastic.specs.ReadingLaws.{Vacancy, seek-vacant, IsFirst, first-is}
+use Rattle.elastic.specs.Insert.{uniformBy, uniformOf, budgetedBy, budgetedOf, freeAt, currentLow, nextLow, pairBy, pairOf, stepsOf, chooseBy, chooseOf, Done, done, counted, insertionOf, placeBy, insertBy, insertOf}
+
+-- ---- what is asked of the searches
+
+module _ {st : State} {level flags : ℕ} (s : Searching st level flags) where
+  pub searching-probed : (last : ℕ) → last ≡ st .plan .levels - 1 → Probed (st .n) last (st .limits .«range_word_cap») level
+  searching-probed last e =
+      record {
+        least = s .config .least;
+        most = s .config .most;
+        last-is = omega (arith, s .levels-is, levels-facts (st .n) (st .e) (s .config) .some);
+        has = omega (arith, s .levels-is, s .has);
+        few = s .limits .words-most;
+      }
+
+  pub searching-seekable : (last tries : ℕ) → last ≡ st .plan .levels - 1 → tries ≤ 8192 → Seekable (st .n) last (st .limits .«range_word_cap») level tries flags
+  searching-seekable last tries e h = record { probed = searching-probed last e; tries-most = h; size = s .flags-size }
+
+  -- a level before it can be searched too
+  pub searching-before : (k : ℕ) → k ≤ level → Searching st k flags
+  searching-before k h = record { config = s .config; limits = s .limits; flags-size = s .flags-size; levels-is = s .levels-is; has = omega (arith, s .has) }
+
+pub valid-searching : {st : State} {cs : List ℕ} {words flags : ℕ} → Valid st cs words flags → (level : ℕ) → level < levelsOf (st .n) → Searching st level flags
+valid-searching v level h = record { config = v .config; limits = v .limits; flags-size = v .flags-size; levels-is = v .levels-is; has = h }
+
+-- ---- the uniform search
+
+module _ (n key cap : ℕ) (fs : List ℕ) (tries : ℕ) (case : Case) (level : ℕ) (r : Sought) (e : r ≡ seekOf n key cap fs level tries) where
+  pub uniform-vacant : (slot probe : ℕ) → r ≡ sought.Vacant slot probe → chosen.Slot case level slot probe ≡ uniformOf n key cap fs tries case level
+  unfolding uniformOf
+  uniform-vacant slot probe h = sym (rw (← e, h))
+
+  pub uniform-passed : r ≡ sought.Passed → chosen.Refused refusal.Search ≡ uniformOf n key cap fs tries case level
+  unfolding uniformOf
+  uniform-passed h = sym (rw (← e, h))
+
+  pub uniform-refused : (x : RangeRefusal) → r ≡ sought.Refused x → chosen.Refused (refusal.Range x) ≡ uniformOf n key cap fs tries case level
+  unfolding uniformOf
+  uniform-refused x h = sym (rw (← e, h))
+
+-- ---- the budgeted search
+
+module _ (n key cap : ℕ) (fs : List ℕ) (tries budget : ℕ) (case : Case) (current next : ℕ) (r : Sought) (e : r ≡ seekOf n key cap fs current budget) where
+  pub budgeted-vacant : (slot probe : ℕ) → r ≡ sought.Vacant slot probe → chosen.Slot case current slot probe ≡ budgetedOf n key cap fs tries budget case current next
+  unfolding budgetedOf
+  budgeted-vacant slot probe h = sym (rw (← e, h))
+
+  pub budgeted-passed : (x : Chosen) → r ≡ sought.Passed → x ≡ uniformOf n key cap fs tries case next → x ≡ budgetedOf n key cap fs tries budget case current next
+  unfolding budgetedOf
+  budgeted-passed x h q = q ∙ sym (rw (← e, h))
+
+  pub budgeted-refused : (x : RangeRefusal) → r ≡ sought.Refused x → chosen.Refused (refusal.Range x) ≡ budgetedOf n key cap fs tries budget case current next
+  unfolding budgetedOf
+  budgeted-refused x h = sym (rw (← e, h))
+
+-- ---- two levels
+
+module _ (st : State) (key : ℕ) (cs fs : List ℕ) (current l m q : ℕ) (a : l ≡ lengthAt (st .n) current) (b : m ≡ lengthAt (st .n) (current + 1)) (d : q ≡ l / 2 ^ (st .e + 1)) where
+  abbrev free : ℕ
+  free = l - getD cs current 0
+
+  abbrev freeNext : ℕ
+  freeNext = m - getD cs (current + 1) 0
+
+  pub pair-schedule : l - getD cs current 0 ≤ q → m - getD cs (current + 1) 0 ≤ m / 4 → chosen.Refused refusal.Schedule ≡ pairOf st key cs fs current
+  unfolding pairOf pairBy
+  pair-schedule h k = sym (rw (← a, ← b, ← d, le-leb free q h, le-leb freeNext (m / 4) k))
+
+  pub pair-next : (x : Chosen) → l - getD cs current 0 ≤ q → m / 4 < m - getD cs (current + 1) 0
+      → x ≡ uniformOf (st .n) key (st .limits .«range_word_cap») fs (st .limits .«uniform_search_probe_cap») (Case2 (current + 1) current (current + 1) (l - getD cs current 0) (m - getD cs (current + 1) 0)) (current + 1)
+      → x ≡ pairOf st key cs fs current
+  unfolding pairOf pairBy
+  pair-next x h k w = w ∙ sym (rw (← a, ← b, ← d, le-leb free q h, lt-leb freeNext (m / 4) k))
+
+  pub pair-current : (x : Chosen) → q < l - getD cs current 0 → m - getD cs (current + 1) 0 ≤ m / 4
+      → x ≡ uniformOf (st .n) key (st .limits .«range_word_cap») fs (st .limits .«uniform_search_probe_cap») (Case3 (current + 1) current (current + 1) (l - getD cs current 0) (m - getD cs (current + 1) 0)) current
+      → x ≡ pairOf st key cs fs current
+  unfolding pairOf pairBy
+  pair-current x h k w = w ∙ sym (rw (← a, ← b, ← d, lt-leb free q h, le-leb freeNext (m / 4) k))
+
+  pub pair-neither : (x : Chosen) → q < l - getD cs current 0 → m / 4 < m - getD cs (current + 1) 0
+      → x ≡ budgetedOf (st .n) key (st .limits .«range_word_cap») fs (st .limits .«uniform_search_probe_cap») (probesOf (l - getD cs current 0) l (st .e) (st .limits .«probe_budget_c»))
+      (Case1 (current + 1) current (current + 1) (l - getD cs current 0) (m - getD cs (current + 1) 0) (probesOf (l - getD cs current 0) l (st .e) (st .limits .«probe_budget_c»))) current (current + 1)
+      → x ≡ pairOf st key cs fs current
+  unfolding pairOf pairBy
+  pair-neither x h k w = w ∙ sym (rw (← a, ← b, ← d, lt-leb free q h, lt-leb freeNext (m / 4) k))
+
+-- ---- the batch
+
+pub steps-first : (st : State) (key : ℕ) (cs fs : List ℕ) (batch : ℕ) (x : Chosen) → batch ≡ 0
+    → x ≡ uniformOf (st .n) key (st .limits .«range_word_cap») fs (st .limits .«uniform_search_probe_cap») (Batch0 0) 0 → x ≡ stepsOf st key cs fs batch
+unfolding stepsOf
+steps-first st key cs fs batch x h w = w ∙ sym (rw h)
+
+pub steps-later : (st : State) (key : ℕ) (cs fs : List ℕ) (batch : ℕ) (x : Chosen) → (batch ≡ 0 → ⊥) → x ≡ pairOf st key cs fs (batch - 1) → x ≡ stepsOf st key cs fs batch
+unfolding stepsOf
+steps-later st key cs fs zero x h w = absurd (h refl)
+steps-later st key cs fs (suc b) x h w = let s : suc b - 1 ≡ b = omega arith in w ∙ ap (pairOf st key cs fs) s
+
+-- the code's batch is that of the quotas
+pub batch-code : (n e levels most count b : ℕ) → levels ≡ levelsOf n → most ≡ maximum n e → b ≡ batchFrom 0 count (cut most (laterQuotas e 0 (split levels n))) → b ≡ batchOf n e count
+unfolding batchOf quotasOf lengthsOf
+batch-code n e levels most count b a d h = h ∙ rw (a, d, ← uncut-later e (split (levelsOf n) n))
+
+module _ (st : State) (cs ws fs : List ℕ) (id : ℕ) (r : Located) (e : r ≡ firstOf ws fs id) where
+  pub choose-duplicate : (slot : ℕ) → r ≡ located.At slot → chosen.Refused (refusal.Duplicate (record { 0 = slot })) ≡ chooseOf st cs ws fs id
+  unfolding chooseOf
+  choose-duplicate slot h = sym (rw (← e, h))
+
+  pub choose-exhausted : r ≡ located.Nowhere → st .plan .maximum ≤ st .count → chosen.Refused refusal.Exhausted ≡ chooseOf st cs ws fs id
+  unfolding chooseOf
+  choose-exhausted h l = sym (rw (← e, h, le-leb (st .plan .maximum) (st .count) l))
+
+  pub choose-steps : (x : Chosen) (key batch : ℕ) → r ≡ located.Nowhere → st .count < st .plan .maximum → key ≡ elasticKeyOf (st .seed) id → batch ≡ batchOf (st .n) (st .e) (st .count)
+      → x ≡ stepsOf st key cs fs batch → x ≡ chooseOf st cs ws fs id
+  unfolding chooseOf
+  choose-steps x key batch h l a b w = w ∙ sym (rw (← e, h, lt-leb (st .plan .maximum) (st .count) l, ← a, ← b))

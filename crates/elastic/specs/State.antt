@@ -1,16 +1,17 @@
 -- The state of an elastic table: the tests 1 to 3, 6 and 7, and the opening. Assumes nothing.
 use mathlib.Core.Bool.{Bool, true, false}
 use mathlib.Core.List.{List, [], _∷_}
+use mathlib.Core.Path.{_≡_}
 use Prim.Native.Nat.{ℕ, zero, suc, _+_, _-_, _*_, _≤_, _<_, min}
 use lib.Dec.{eqb, ltb, leb}
-use lib.ListN.{length, replicate}
+use lib.ListN.{length, getD, replicate}
 use Rattle.refusal.specs.Table.{nameOf, Report, answered, refused}
 use Rattle.refusal.specs.declared.Gate.{Gate}
 use Rattle.refusal.specs.declared.Gate.the-variants as gate
 use Rattle.geometry.specs.declared.config.Gated.{Gated}
 use Rattle.geometry.specs.declared.config.Gated.the-variants.{Passed, Refused}
 use Rattle.geometry.specs.declared.elastic.ElasticPlan.{ElasticPlan}
-use Rattle.geometry.specs.Config.{configGate, maximum}
+use Rattle.geometry.specs.Config.{Configured, configGate, maximum}
 use Rattle.geometry.specs.Elastic.{both, total, levelsOf, lengthsOf, split, planOf, isPlanOf}
 use Rattle.elastic.specs.declared.state.Limits.{Limits}
 use Rattle.elastic.specs.declared.state.State.{State}
@@ -99,3 +100,49 @@ openOf n e seed limits cs ws fs = openBy (openGate n e limits (length ws) (lengt
 unfoldable pub openReport : Opened → Report
 openReport (opening.Open st) = answered []
 openReport (opening.Refused g) = refused (nameOf g) []
+
+-- ---- what the tests say once passed
+
+-- "word cap 1 to 8; uniform-search cap 1 to 8,192; c ..; query position cap 1 to 984,263,340"
+pub record LimitsFacts (e : ℕ) (l : Limits) : Type 0 where
+  pub words-some : 0 < l .«range_word_cap»
+  pub words-most : l .«range_word_cap» ≤ 8
+  pub search-some : 0 < l .«uniform_search_probe_cap»
+  pub search-most : l .«uniform_search_probe_cap» ≤ 8192
+  pub factor-some : 0 < l .«probe_budget_c»
+  pub factor-most : l .«probe_budget_c» * min e 1024 ≤ 8192
+  pub position-some : 0 < l .«hit_query_position_cap»
+  pub position-most : l .«hit_query_position_cap» ≤ 984263340
+
+-- a table whose tests pass
+pub record Valid (st : State) (cs : List ℕ) (words flags : ℕ) : Type 0 where
+  pub config : Configured (st .n) (st .e)
+  pub limits : LimitsFacts (st .e) (st .limits)
+  pub words-size : words ≡ st .n
+  pub flags-size : flags ≡ st .n
+  pub count-most : st .count ≤ st .n
+  pub levels-is : st .plan .levels ≡ levelsOf (st .n)
+  pub maximum-is : st .plan .maximum ≡ maximum (st .n) (st .e)
+  pub within : (k : ℕ) → getD cs k 0 ≤ getD (lengthsOf (st .n)) k 0
+  pub sums : total cs ≡ st .count
+
+-- a level of it that can be searched
+pub record Searching (st : State) (level flags : ℕ) : Type 0 where
+  pub config : Configured (st .n) (st .e)
+  pub limits : LimitsFacts (st .e) (st .limits)
+  pub flags-size : flags ≡ st .n
+  pub levels-is : st .plan .levels ≡ levelsOf (st .n)
+  pub has : level < levelsOf (st .n)
+
+-- a level and the next one
+pub record Pairing (st : State) (cs : List ℕ) (current flags : ℕ) : Type 0 where
+  pub search : Searching st (current + 1) flags
+  pub within : (k : ℕ) → getD cs k 0 ≤ getD (lengthsOf (st .n)) k 0
+
+-- free slots and a level for which no table's budget is refused
+pub record Affordable (free size e c : ℕ) : Type 0 where
+  pub some : 0 < free
+  pub most : free ≤ size
+  pub small : size ≤ 4294967296
+  pub factor-some : 0 < c
+  pub factor-most : c * min e 1024 ≤ 8192

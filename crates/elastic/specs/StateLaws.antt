@@ -20,7 +20,7 @@ use Rattle.geometry.specs.ElasticLaws.{plan-facts}
 use Rattle.elastic.specs.declared.state.Limits.{Limits}
 use Rattle.elastic.specs.declared.state.State.{State}
 use Rattle.elastic.specs.declared.state.Opened.the-variants as opening
-use Rattle.elastic.specs.State.{capFits, factorFits, limitsFit, buffersFit, countsWithin, countsFit, stateFits, demand, settingGate, openGate, gateOf, opened, freshOf, openBy, openOf}
+use Rattle.elastic.specs.State.{capFits, factorFits, limitsFit, buffersFit, countsWithin, countsFit, stateFits, demand, settingGate, openGate, gateOf, opened, freshOf, openBy, openOf, LimitsFacts, Valid}
 
 -- ---- tests one after the other
 
@@ -164,17 +164,6 @@ module _ (n e seed : ℕ) (limits : Limits) (cs ws fs : List ℕ) where
 
 -- ---- what the gate says once passed
 
--- "word cap 1 to 8; uniform-search cap 1 to 8,192; c ..; query position cap 1 to 984,263,340"
-pub record LimitsFacts (e : ℕ) (l : Limits) : Type 0 where
-  pub words-some : 0 < l .«range_word_cap»
-  pub words-most : l .«range_word_cap» ≤ 8
-  pub search-some : 0 < l .«uniform_search_probe_cap»
-  pub search-most : l .«uniform_search_probe_cap» ≤ 8192
-  pub factor-some : 0 < l .«probe_budget_c»
-  pub factor-most : l .«probe_budget_c» * min e 1024 ≤ 8192
-  pub position-some : 0 < l .«hit_query_position_cap»
-  pub position-most : l .«hit_query_position_cap» ≤ 984263340
-
 pub limits-facts : (e : ℕ) (l : Limits) → limitsFit e l ≡ true → LimitsFacts e l
 unfolding limitsFit factorFits
 limits-facts e l h =
@@ -204,18 +193,6 @@ within-at [] (c ∷ cs) h zero = let z = eqb-true c 0 (both-yes _ _ h .0) in ome
 within-at [] (c ∷ cs) h (suc k) = within-at [] cs (both-yes (eqb c 0) (countsWithin [] cs) h .1) k
 within-at (l ∷ ls) (c ∷ cs) h zero = leb-true c l (both-yes _ _ h .0)
 within-at (l ∷ ls) (c ∷ cs) h (suc k) = within-at ls cs (both-yes (leb c l) (countsWithin ls cs) h .1) k
-
--- a table whose tests pass
-pub record Valid (st : State) (cs : List ℕ) (words flags : ℕ) : Type 0 where
-  pub config : Configured (st .n) (st .e)
-  pub limits : LimitsFacts (st .e) (st .limits)
-  pub words-size : words ≡ st .n
-  pub flags-size : flags ≡ st .n
-  pub count-most : st .count ≤ st .n
-  pub levels-is : st .plan .levels ≡ levelsOf (st .n)
-  pub maximum-is : st .plan .maximum ≡ maximum (st .n) (st .e)
-  pub within : (k : ℕ) → getD cs k 0 ≤ getD (lengthsOf (st .n)) k 0
-  pub sums : total cs ≡ st .count
 
 pub gate-valid : (st : State) (cs : List ℕ) (words flags : ℕ) → gateOf st cs words flags ≡ Passed → Valid st cs words flags
 unfolding gateOf settingGate stateFits countsFit lengthsOf
