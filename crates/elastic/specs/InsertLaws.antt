@@ -14,9 +14,14 @@ use Rattle.words.specs.Pick.{pick}
 use Rattle.geometry.specs.declared.config.Gated.{Gated}
 use Rattle.geometry.specs.declared.config.Gated.the-variants as gated
 use Rattle.geometry.specs.Config.{Configured, maximum}
-use Rattle.geometry.specs.Elastic.{levelsOf, lengthsOf, lengthAt, offsetAt, batchFrom, batchOf, quotasOf, cut, laterQuotas, uncutQuotas, split}
+use Rattle.geometry.specs.Elastic.{levelsOf, levelLength, lengthsOf, lengthAt, offsetAt, batchFrom, batchOf, quotasOf, cut, laterQuotas, uncutQuotas, split}
 use Rattle.geometry.specs.ElasticLaws.{levels-facts, uncut-later, batch-is}
-use Rattle.probe.specs.Budget.{probesOf}
+use Rattle.probe.specs.Budget.{probesOf, budgetOf}
+use Rattle.probe.specs.BudgetLaws.{probes-most, budget-in-table}
+use Rattle.probe.specs.declared.budget.Budgeted.{Budgeted}
+use Rattle.probe.specs.declared.budget.Budgeted.the-variants as budgeted
+use Rattle.probe.specs.declared.phi.Bounded.{Bounded}
+use Rattle.probe.specs.declared.phi.Coordinate.{Coordinate}
 use Rattle.probe.specs.Phi.{phi}
 use Rattle.probe.specs.PhiLaws.{phi-bound}
 use Rattle.probe.specs.Position.{boundedOf}
@@ -37,7 +42,7 @@ use Rattle.elastic.specs.declared.insert.Chosen.{Chosen}
 use Rattle.elastic.specs.declared.insert.Chosen.the-variants as chosen
 use Rattle.elastic.specs.State.{gateOf, LimitsFacts, Valid, Searching, Pairing, Affordable}
 use Rattle.elastic.specs.Reading.{seekOf, firstOf, Probed, Seekable}
-use Rattle.elastic.specs.ReadingLaws.{Vacancy, seek-vacant, IsFirst, first-is}
+use Rattle.elastic.specs.ReadingLaws.{probed-few, probed-length, probed-within, Vacancy, seek-vacant, IsFirst, first-is}
 use Rattle.elastic.specs.Insert.{uniformBy, uniformOf, budgetedBy, budgetedOf, freeAt, currentLow, nextLow, pairBy, pairOf, stepsOf, chooseBy, chooseOf, Done, done, counted, insertionOf, placeBy, insertBy, insertOf}
 
 -- ---- what is asked of the searches
@@ -62,6 +67,71 @@ module _ {st : State} {level flags : ℕ} (s : Searching st level flags) where
 
 pub valid-searching : {st : State} {cs : List ℕ} {words flags : ℕ} → Valid st cs words flags → (level : ℕ) → level < levelsOf (st .n) → Searching st level flags
 valid-searching v level h = record { config = v .config; limits = v .limits; flags-size = v .flags-size; levels-is = v .levels-is; has = h }
+
+-- what a pair of levels says of its numbers
+pub record Lengths (st : State) (cs : List ℕ) (current l m : ℕ) : Type 0 where
+  pub here : l ≡ lengthAt (st .n) current
+  pub there : m ≡ lengthAt (st .n) (current + 1)
+  pub room : getD cs current 0 ≤ l
+  pub room-next : getD cs (current + 1) 0 ≤ m
+  pub small : l ≤ 4294967296
+
+module _ {st : State} {cs : List ℕ} {current flags : ℕ} (p : Pairing st cs current flags) where
+  pub pairing-few : current + 1 < 32
+  pairing-few = probed-few (searching-probed (p .search) (st .plan .levels - 1) refl)
+
+  pub pairing-lengths : (l m : ℕ) → l ≡ levelLength (st .plan .levels - 1 - current) (st .n / 2 ^ current) → m ≡ levelLength (st .plan .levels - 1 - (current + 1)) (st .n / 2 ^ (current + 1))
+      → Lengths st cs current l m
+  pairing-lengths l m a b =
+      let s = searching-before (p .search) current (omega arith) in
+      let q = searching-probed s (st .plan .levels - 1) refl in
+      let x = probed-length q l a in
+      let y = probed-length (searching-probed (p .search) (st .plan .levels - 1) refl) m b in
+      let w = probed-within q in
+      record { here = x; there = y; room = rw x (p .within current); room-next = rw y (p .within (current + 1)); small = omega (arith, x, w, s .config .most) }
+
+  pub pairing-affordable : (l free : ℕ) → l ≤ 4294967296 → 0 < free → free ≤ l → Affordable free l (st .e) (st .limits .«probe_budget_c»)
+  pairing-affordable l free h a b = record { some = a; most = b; small = h; factor-some = p .search .limits .factor-some; factor-most = p .search .limits .factor-most }
+
+-- ---- numbers that no table refuses
+
+module _ (free size e c : ℕ) (a : Affordable free size e c) (b : Budgeted) (is : b ≡ budgetOf free size e c) where
+  budget-given : b ≡ budgeted.Probes (probesOf free size e c)
+  budget-given = is ∙ sym (budget-in-table free size e c (a .some) (a .most) (a .small) (a .factor-some) (a .factor-most))
+
+  pub budget-probes : (p : ℕ) → b ≡ budgeted.Probes p → (p ≡ probesOf free size e c) × (p ≤ 8192)
+  budget-probes p h =
+      let g = budget-given in
+      let same : p ≡ probesOf free size e c = cc in
+      (same, rw same (probes-most free size e c (a .some) (a .most) (a .small) (a .factor-some) (a .factor-most)))
+
+  pub budget-never : {A : Type 0} → (reason : ℕ) → b ≡ budgeted.Budget reason → A
+  budget-never reason h = let g = budget-given in let z : _≡_ {A = ℕ} 0 1 = cc in absurd (omega arith)
+
+phi-word : (level probe : ℕ) → level < 32 → probe < 8192 → phi (level + 1) (probe + 1) < 2 ^ 64
+phi-word level probe h k =
+    let a : (probe + 1) * (probe + 1) ≤ 8192 * 8192 = mul-le-mul {n₂ = 8192} {m₂ = 8192} (omega arith) (omega arith) in
+    let b : 16 * (level + 1) * ((probe + 1) * (probe + 1)) ≤ 512 * (8192 * 8192) = mul-le-mul {n₂ = 512} {m₂ = 8192 * 8192} (omega arith) a in
+    let d = phi-bound (level + 1) (probe + 1) (omega arith) (omega arith) in
+    below (phi (level + 1) (probe + 1)) _ d b
+  where
+    below : (x y : ℕ) → x < y → y ≤ 512 * (8192 * 8192) → x < 2 ^ 64
+    below x y u v = omega arith
+
+module _ (level probe : ℕ) (h : level < 32) (k : probe < 8192) (b : Bounded) (is : b ≡ boundedOf (level + 1) (probe + 1)) where
+  position-given : b ≡ bounded.At (phi (level + 1) (probe + 1))
+  unfolding boundedOf
+  position-given =
+      is ∙ rw (ne-eqb (level + 1) 0 (λ z. omega arith), ne-eqb (probe + 1) 0 (λ z. omega arith), le-ltb 65535 (probe + 1) (omega arith), lt-ltb (phi (level + 1) (probe + 1)) (2 ^ 64) (phi-word level probe h k))
+
+  pub position-is : (p : ℕ) → b ≡ bounded.At p → p ≡ phi (level + 1) (probe + 1)
+  position-is p e = let g = position-given in cc
+
+  pub position-coord : {A : Type 0} → (x : Coordinate) → b ≡ bounded.Coord x → A
+  position-coord x e = let g = position-given in let z : _≡_ {A = ℕ} 0 1 = cc in absurd (omega arith)
+
+  pub position-over : {A : Type 0} → b ≡ bounded.Overflow → A
+  position-over e = let g = position-given in let z : _≡_ {A = ℕ} 0 1 = cc in absurd (omega arith)
 
 -- ---- the uniform search
 

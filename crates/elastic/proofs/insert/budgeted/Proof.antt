@@ -1,59 +1,44 @@
+-- `elastic::insert::budgeted` meets its contract: each return is a law of the search. Assumes nothing.
+use Rattle.elastic.specs.InsertLaws.{budgeted-vacant, budgeted-passed, budgeted-refused}
 use borrow.Author.Needs.{needs}
 use Rattle.elastic.proofs.insert.budgeted.Statement.{statement}
 use Rattle.elastic.proofs.insert.budgeted.Tie as tie
-use Rattle.elastic.proofs.insert.budgeted.Reads as reads
-use Rattle.elastic.proofs.insert.budgeted.Lts as lts
-use Rattle.elastic.proofs.insert.probes_of.Reads as probes-of-reads
-use Rattle.elastic.proofs.insert.uniform.Reads as uniform-reads
-use Rattle.elastic.proofs.route.seek.Reads as seek-reads
 
--- src/insert.rt:323:16
 sub-last : tie.Need-sub-last
 sub-last c = search needs
 
--- src/insert.rt:324:16
 add-next : tie.Need-add-next
 add-next c = search needs
 
--- src/insert.rt:326:40
 cast-probes-of : tie.Need-cast-probes-of
 cast-probes-of c = search needs
 
--- src/insert.rt:326:9
 probes-of-requires : tie.Need-probes-of-requires
 probes-of-requires c κs = search needs
 
--- src/insert.rt:335:11
 seek-requires : tie.Need-seek-requires
 seek-requires c κs = search needs
 
--- src/insert.rt:336:26
 enum-known-slot : tie.Need-enum-known-slot
 enum-known-slot c = search needs
 
--- src/insert.rt:337:13
 returns : tie.Need-returns
-returns c = ?
+returns c = rw (← (c .before .before .before .before .probes-of .ensures .0)) (budgeted-vacant _ _ _ _ _ _ _ _ _ _ (c .before .before .before .seek .ensures) _ _ (c .before .slot .given .1))
 
--- src/insert.rt:345:13
 enum-told : tie.Need-enum-told
 enum-told c = search needs
 
--- src/insert.rt:345:13
 uniform-requires : tie.Need-uniform-requires
 uniform-requires c κs = search needs
 
--- src/insert.rt:345:13
 returns-2 : tie.Need-returns-2
-returns-2 c = ?
+returns-2 c = rw (← (c .before .before .before .before .probes-of .ensures .0)) (budgeted-passed _ _ _ _ _ _ _ _ _ _ (c .before .before .before .seek .ensures) _ (c .before .enum-told .given .1) (c .uniform .ensures))
 
--- src/insert.rt:347:25
 enum-known-refusal : tie.Need-enum-known-refusal
 enum-known-refusal c = search needs
 
--- src/insert.rt:348:13
 returns-3 : tie.Need-returns-3
-returns-3 c = ?
+returns-3 c = rw (← (c .before .before .before .before .probes-of .ensures .0)) (budgeted-refused _ _ _ _ _ _ _ _ _ _ (c .before .before .before .seek .ensures) _ (c .before .refusal .given .1))
 
 pub budgeted-spec : {M : Type 1} → statement M
 budgeted-spec =

@@ -1,92 +1,91 @@
+-- `elastic::insert::pair` meets its contract: each return is a law of the pair. Assumes nothing.
+use native.Mathlib.Omega.{arith}
+use Rattle.elastic.specs.InsertLaws.{pairing-few, pairing-lengths, pairing-affordable, pair-schedule, pair-next, pair-current, pair-neither}
 use borrow.Author.Needs.{needs}
 use Rattle.elastic.proofs.insert.pair.Statement.{statement}
 use Rattle.elastic.proofs.insert.pair.Tie as tie
-use Rattle.elastic.proofs.insert.pair.Reads as reads
-use Rattle.elastic.proofs.insert.pair.Lts as lts
-use Rattle.elastic.proofs.insert.budgeted.Reads as budgeted-reads
-use Rattle.elastic.proofs.insert.uniform.Reads as uniform-reads
-use Rattle.geometry.proofs.elastic.level_length.Reads as level-length-reads
-use Rattle.words.proofs.power.floor_div_pow2.Reads as floor-div-pow2-reads
 
--- src/insert.rt:272:16
 sub-last : tie.Need-sub-last
 sub-last c = search needs
 
--- src/insert.rt:273:16
 add-next : tie.Need-add-next
 add-next c = search needs
 
--- src/insert.rt:274:9
 level-length-requires : tie.Need-level-length-requires
 level-length-requires c κs = search needs
 
--- src/insert.rt:275:9
 level-length-requires-2 : tie.Need-level-length-requires-2
 level-length-requires-2 c κs = search needs
 
--- src/insert.rt:276:19
 mul-members : tie.Need-mul-members
-mul-members c = ?
+mul-members c = omega (arith, pairing-few (c .before .before .before .before .before .pre))
 
--- src/insert.rt:276:19
 element-copy-out-members : tie.Need-element-copy-out-members
-element-copy-out-members c = ?
+element-copy-out-members c = omega (arith, pairing-few (c .before .before .before .before .before .pre))
 
--- src/insert.rt:277:24
 mul-next-members : tie.Need-mul-next-members
-mul-next-members c = ?
+mul-next-members c = omega (arith, pairing-few (c .before .before .before .before .before .before .pre))
 
--- src/insert.rt:277:24
 element-copy-out-next-members : tie.Need-element-copy-out-next-members
-element-copy-out-next-members c = ?
+element-copy-out-next-members c = pairing-few (c .before .before .before .before .before .before .pre)
 
--- src/insert.rt:278:16
 sub-free : tie.Need-sub-free
-sub-free c = ?
+sub-free c =
+    let p = c .before .before .before .before .before .before .before .pre in
+    let f = pairing-lengths p _ _ (c .before .before .before .level-length .ensures) (c .before .before .level-length2 .ensures) in
+    f .room
 
--- src/insert.rt:279:21
 sub-next-free : tie.Need-sub-next-free
-sub-next-free c = ?
+sub-next-free c =
+    let p = c .before .before .before .before .before .before .before .pre in
+    let f = pairing-lengths p _ _ (c .before .before .before .level-length .ensures) (c .before .before .level-length2 .ensures) in
+    f .room-next
 
--- src/insert.rt:280:40
 cast-floor-div-pow2 : tie.Need-cast-floor-div-pow2
 cast-floor-div-pow2 c = search needs
 
--- src/insert.rt:280:40
 add-floor-div-pow2 : tie.Need-add-floor-div-pow2
 add-floor-div-pow2 c = search needs
 
--- src/insert.rt:280:9
 floor-div-pow2-requires : tie.Need-floor-div-pow2-requires
 floor-div-pow2-requires c κs = search needs
 
--- src/insert.rt:283:13
 returns : tie.Need-returns
-returns c = ?
+returns c =
+    let p = c .before .before .before .before .before .before .before .before .before .before .before .pre in
+    let f = pairing-lengths p _ _ (c .before .before .before .before .before .before .before .level-length .ensures) (c .before .before .before .before .before .before .level-length2 .ensures) in
+    pair-schedule _ _ _ _ _ _ _ _ (f .here) (f .there) (c .before .before .floor-div-pow2 .ensures) (c .before .if1 .taken) (c .if2 .taken)
 
--- src/insert.rt:292:9
 uniform-requires : tie.Need-uniform-requires
 uniform-requires c κs = search needs
 
--- src/insert.rt:292:9
 returns-2 : tie.Need-returns-2
-returns-2 c = ?
+returns-2 c =
+    let p = c .before .before .before .before .before .before .before .before .before .before .before .before .pre in
+    let f = pairing-lengths p _ _ (c .before .before .before .before .before .before .before .before .level-length .ensures) (c .before .before .before .before .before .before .before .level-length2 .ensures) in
+    pair-next _ _ _ _ _ _ _ _ (f .here) (f .there) (c .before .before .before .floor-div-pow2 .ensures) _ (c .before .before .if1 .taken) (c .before .if2 .left) (c .uniform .ensures)
 
--- src/insert.rt:302:9
 uniform-requires-2 : tie.Need-uniform-requires-2
 uniform-requires-2 c κs = search needs
 
--- src/insert.rt:302:9
 returns-3 : tie.Need-returns-3
-returns-3 c = ?
+returns-3 c =
+    let p = c .before .before .before .before .before .before .before .before .before .before .before .before .pre in
+    let f = pairing-lengths p _ _ (c .before .before .before .before .before .before .before .before .level-length .ensures) (c .before .before .before .before .before .before .before .level-length2 .ensures) in
+    pair-current _ _ _ _ _ _ _ _ (f .here) (f .there) (c .before .before .before .floor-div-pow2 .ensures) _ (c .before .before .if1 .left) (c .before .if3 .taken) (c .uniform2 .ensures)
 
--- src/insert.rt:304:5
 budgeted-requires : tie.Need-budgeted-requires
-budgeted-requires c κs = ?
+budgeted-requires c κs =
+    let p = c .before .before .before .before .before .before .before .before .before .before .before .pre in
+    let f = pairing-lengths p _ _ (c .before .before .before .before .before .before .before .level-length .ensures) (c .before .before .before .before .before .before .level-length2 .ensures) in
+    let some = c .before .if1 .left in
+    (p .search, pairing-affordable p _ _ (f .small) (omega arith) (omega arith))
 
--- src/insert.rt:266:1
 returns-4 : tie.Need-returns-4
-returns-4 c = ?
+returns-4 c =
+    let p = c .before .before .before .before .before .before .before .before .before .before .before .before .pre in
+    let f = pairing-lengths p _ _ (c .before .before .before .before .before .before .before .before .level-length .ensures) (c .before .before .before .before .before .before .before .level-length2 .ensures) in
+    pair-neither _ _ _ _ _ _ _ _ (f .here) (f .there) (c .before .before .before .floor-div-pow2 .ensures) _ (c .before .before .if1 .left) (c .before .if3 .left) (c .budgeted .ensures)
 
 pub pair-spec : {M : Type 1} → statement M
 pair-spec =

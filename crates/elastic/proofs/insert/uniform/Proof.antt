@@ -1,41 +1,32 @@
+-- `elastic::insert::uniform` meets its contract: each return is a law of the search. Assumes nothing.
+use Rattle.elastic.specs.InsertLaws.{uniform-vacant, uniform-passed, uniform-refused}
 use borrow.Author.Needs.{needs}
 use Rattle.elastic.proofs.insert.uniform.Statement.{statement}
 use Rattle.elastic.proofs.insert.uniform.Tie as tie
-use Rattle.elastic.proofs.insert.uniform.Reads as reads
-use Rattle.elastic.proofs.insert.uniform.Lts as lts
-use Rattle.elastic.proofs.route.seek.Reads as seek-reads
 
--- src/insert.rt:244:16
 sub-last : tie.Need-sub-last
 sub-last c = search needs
 
--- src/insert.rt:247:11
 seek-requires : tie.Need-seek-requires
 seek-requires c κs = search needs
 
--- src/insert.rt:248:26
 enum-known-slot : tie.Need-enum-known-slot
 enum-known-slot c = search needs
 
--- src/insert.rt:249:13
 returns : tie.Need-returns
-returns c = ?
+returns c = uniform-vacant _ _ _ _ _ _ _ _ (c .before .before .before .seek .ensures) _ _ (c .before .slot .given .1)
 
--- src/insert.rt:257:36
 enum-told : tie.Need-enum-told
 enum-told c = search needs
 
--- src/insert.rt:257:13
 returns-2 : tie.Need-returns-2
-returns-2 c = ?
+returns-2 c = uniform-passed _ _ _ _ _ _ _ _ (c .before .before .seek .ensures) (c .enum-told .given .1)
 
--- src/insert.rt:259:25
 enum-known-refusal : tie.Need-enum-known-refusal
 enum-known-refusal c = search needs
 
--- src/insert.rt:260:13
 returns-3 : tie.Need-returns-3
-returns-3 c = ?
+returns-3 c = uniform-refused _ _ _ _ _ _ _ _ (c .before .before .before .seek .ensures) _ (c .before .refusal .given .1)
 
 pub uniform-spec : {M : Type 1} → statement M
 uniform-spec =
