@@ -225,3 +225,145 @@ module _ (st : State) (cs ws fs : List ℕ) (id : ℕ) (r : Located) (e : r ≡ 
       → x ≡ stepsOf st key cs fs batch → x ≡ chooseOf st cs ws fs id
   unfolding chooseOf
   choose-steps x key batch h l a b w = w ∙ sym (rw (← e, h, lt-leb (st .plan .maximum) (st .count) l, ← a, ← b))
+
+-- ---- the slot that is chosen
+
+-- a vacant slot of its level, at a probe within the packing
+pub record Taken (st : State) (fs : List ℕ) (level slot probe : ℕ) : Type 0 where
+  pub has : level < levelsOf (st .n)
+  pub few : level < 32
+  pub from : offsetAt (st .n) level ≤ slot
+  pub to : slot < offsetAt (st .n) level + lengthAt (st .n) level
+  pub below : slot < st .n
+  pub vacant : getD fs slot 0 ≡ 0
+  pub in-time : probe < 8192
+
+-- a pair of levels, by the one that is searched
+pair-cases : {A : Type 0} (x y : Bool) (both here there neither r : Chosen) → pairBy x y both here there neither ≡ r
+    → (both ≡ r → A) → (here ≡ r → A) → (there ≡ r → A) → (x ≡ false → neither ≡ r → A) → A
+unfolding pairBy
+pair-cases true true both here there neither r h a b c d = a h
+pair-cases true false both here there neither r h a b c d = b h
+pair-cases false true both here there neither r h a b c d = c h
+pair-cases false false both here there neither r h a b c d = d refl h
+
+module _ {st : State} {fs : List ℕ} (key : ℕ) where
+  taken-seek : {level : ℕ} → Searching st level (length fs) → (tries slot probe : ℕ) → tries ≤ 8192 → seekOf (st .n) key (st .limits .«range_word_cap») fs level tries ≡ sought.Vacant slot probe
+      → Taken st fs level slot probe
+  taken-seek s tries slot probe h e =
+      let q = searching-probed s (st .plan .levels - 1) refl in
+      let v = seek-vacant q key fs tries slot probe e in
+      record { has = s .has; few = probed-few q; from = v .from; to = v .to; below = v .below; vacant = v .vacant; in-time = omega (arith, v .in-time) }
+
+  -- by what a search answers
+  pub uniform-taken : {level : ℕ} → Searching st level (length fs) → (case case' : Case) (level' slot probe : ℕ)
+      → uniformOf (st .n) key (st .limits .«range_word_cap») fs (st .limits .«uniform_search_probe_cap») case level ≡ chosen.Slot case' level' slot probe → Taken st fs level' slot probe
+  unfolding uniformOf
+  uniform-taken {level} s case case' level' slot probe h =
+      go (seekOf (st .n) key (st .limits .«range_word_cap») fs level (st .limits .«uniform_search_probe_cap»)) refl h
+    where
+      go : (r : Sought) → seekOf (st .n) key (st .limits .«range_word_cap») fs level (st .limits .«uniform_search_probe_cap») ≡ r → uniformBy case level r ≡ chosen.Slot case' level' slot probe → Taken st fs level' slot probe
+      go (sought.Vacant u q) e g =
+          let a : level ≡ level' = cc in
+          let b : u ≡ slot = cc in
+          let d : q ≡ probe = cc in
+          rw (← a, ← b, ← d) (taken-seek s _ u q (s .limits .search-most) e)
+      go sought.Passed e g = let z : _≡_ {A = ℕ} 0 1 = cc in absurd (omega arith)
+      go (sought.Refused r) e g = let z : _≡_ {A = ℕ} 0 1 = cc in absurd (omega arith)
+
+  budgeted-taken : {current next : ℕ} → Searching st current (length fs) → Searching st next (length fs) → (budget : ℕ) → budget ≤ 8192 → (case case' : Case) (level' slot probe : ℕ)
+      → budgetedOf (st .n) key (st .limits .«range_word_cap») fs (st .limits .«uniform_search_probe_cap») budget case current next ≡ chosen.Slot case' level' slot probe → Taken st fs level' slot probe
+  unfolding budgetedOf
+  budgeted-taken {current} {next} s t budget few case case' level' slot probe h =
+      go (seekOf (st .n) key (st .limits .«range_word_cap») fs current budget) refl h
+    where
+      go : (r : Sought) → seekOf (st .n) key (st .limits .«range_word_cap») fs current budget ≡ r
+          → budgetedBy case current r (uniformOf (st .n) key (st .limits .«range_word_cap») fs (st .limits .«uniform_search_probe_cap») case next) ≡ chosen.Slot case' level' slot probe → Taken st fs level' slot probe
+      go (sought.Vacant u q) e g =
+          let a : current ≡ level' = cc in
+          let b : u ≡ slot = cc in
+          let d : q ≡ probe = cc in
+          rw (← a, ← b, ← d) (taken-seek s budget u q few e)
+      go sought.Passed e g = uniform-taken t case case' level' slot probe g
+      go (sought.Refused r) e g = let z : _≡_ {A = ℕ} 0 1 = cc in absurd (omega arith)
+
+  pair-taken : {cs : List ℕ} {current : ℕ} → Pairing st cs current (length fs) → (case' : Case) (level' slot probe : ℕ)
+      → pairOf st key cs fs current ≡ chosen.Slot case' level' slot probe → Taken st fs level' slot probe
+  unfolding pairOf
+  pair-taken {cs} {current} p case' level' slot probe h =
+      pair-cases _ _ _ _ _ _ _ h
+      (λ g. let z : _≡_ {A = ℕ} 0 1 = cc in absurd (omega arith))
+      (λ g. uniform-taken (p .search) _ case' level' slot probe g)
+      (λ g. uniform-taken here _ case' level' slot probe g)
+      (λ e g. budgeted-taken here (p .search) _ (budget-most e) _ case' level' slot probe g)
+    where
+      here : Searching st current (length fs)
+      here = searching-before (p .search) current (omega arith)
+
+      budget-most : leb (freeAt (st .n) cs current) (lengthAt (st .n) current / 2 ^ (st .e + 1)) ≡ false
+          → probesOf (freeAt (st .n) cs current) (lengthAt (st .n) current) (st .e) (st .limits .«probe_budget_c») ≤ 8192
+      budget-most e =
+          let q = searching-probed here (st .plan .levels - 1) refl in
+          let small : lengthAt (st .n) current ≤ 4294967296 = omega (arith, probed-within q, p .search .config .most) in
+          let l : lengthAt (st .n) current / 2 ^ (st .e + 1) < freeAt (st .n) cs current = leb-false _ _ e in
+          let a = pairing-affordable p (lengthAt (st .n) current) (freeAt (st .n) cs current) small (omega arith) (omega arith) in
+          probes-most _ _ _ _ (a .some) (a .most) (a .small) (a .factor-some) (a .factor-most)
+
+pub valid-pairing : {st : State} {cs : List ℕ} {words flags : ℕ} → Valid st cs words flags → (current : ℕ) → current + 1 < levelsOf (st .n) → Pairing st cs current flags
+valid-pairing v current h = record { search = valid-searching v (current + 1) h; within = v .within }
+
+steps-taken : {st : State} {cs fs : List ℕ} {words : ℕ} → Valid st cs words (length fs) → (key batch : ℕ) → batch < levelsOf (st .n) → (case' : Case) (level' slot probe : ℕ)
+    → stepsOf st key cs fs batch ≡ chosen.Slot case' level' slot probe → Taken st fs level' slot probe
+unfolding stepsOf
+steps-taken v key zero l case' level' slot probe h = uniform-taken key (valid-searching v 0 l) _ case' level' slot probe h
+steps-taken v key (suc b) l case' level' slot probe h = pair-taken key (valid-pairing v b (omega arith)) case' level' slot probe h
+
+-- with fewer members than the maximum there is a batch
+pub valid-batch : {st : State} {cs : List ℕ} {words flags : ℕ} → Valid st cs words flags → st .count < st .plan .maximum → batchOf (st .n) (st .e) (st .count) < levelsOf (st .n)
+valid-batch {st} v h = batch-is (st .n) (st .e) (v .config) (st .count) (omega (arith, v .maximum-is)) .1
+
+pub choose-taken : (st : State) (cs ws fs : List ℕ) → Valid st cs (length ws) (length fs) → (id : ℕ) (case' : Case) (level' slot probe : ℕ)
+    → chooseOf st cs ws fs id ≡ chosen.Slot case' level' slot probe → Taken st fs level' slot probe
+unfolding chooseOf
+choose-taken st cs ws fs v id case' level' slot probe h = go (firstOf ws fs id) h
+  where
+    by : (x : Bool) → leb (st .plan .maximum) (st .count) ≡ x → pick x (chosen.Refused refusal.Exhausted) (stepsOf st (elasticKeyOf (st .seed) id) cs fs (batchOf (st .n) (st .e) (st .count))) ≡ chosen.Slot case' level' slot probe
+        → Taken st fs level' slot probe
+    by true e g = let z : _≡_ {A = ℕ} 0 1 = cc in absurd (omega arith)
+    by false e g = steps-taken v (elasticKeyOf (st .seed) id) (batchOf (st .n) (st .e) (st .count)) (valid-batch v (leb-false _ _ e)) case' level' slot probe g
+
+    go : (r : Located) → chooseBy st id cs fs r ≡ chosen.Slot case' level' slot probe → Taken st fs level' slot probe
+    go (located.At u) g = let z : _≡_ {A = ℕ} 0 1 = cc in absurd (omega arith)
+    go located.Nowhere g = by (leb (st .plan .maximum) (st .count)) refl g
+
+-- ---- what is written
+
+module _ (st : State) (cs ws fs : List ℕ) (id : ℕ) (x : Chosen) (e : x ≡ chooseOf st cs ws fs id) where
+  pub place-refused : (r : InsertRefusal) → x ≡ chosen.Refused r → done (answer.Refused r) st cs ws fs ≡ placeBy st cs ws fs id (chooseOf st cs ws fs id)
+  unfolding placeBy
+  place-refused r h = sym (rw (← e, h))
+
+  module _ (case : Case) (level slot probe p : ℕ) (h : x ≡ chosen.Slot case level slot probe) (is : p ≡ phi (level + 1) (probe + 1)) where
+    pub place-position : st .limits .«hit_query_position_cap» < p → done (answer.Refused refusal.Position) st cs ws fs ≡ placeBy st cs ws fs id (chooseOf st cs ws fs id)
+    unfolding placeBy
+    place-position l = sym (rw (← e, h, ← is, lt-ltb (st .limits .«hit_query_position_cap») p l))
+
+    pub place-inserted : (o : ℕ) → p ≤ st .limits .«hit_query_position_cap» → o ≡ offsetAt (st .n) level
+        → done (answer.Inserted (record {
+          case = case;
+          location = record { level = level; «slot_in_level» = record { 0 = slot - o }; «global_slot» = record { 0 = slot } };
+          «paper_probe» = record { 0 = probe + 1 };
+          phi = p;
+        })) (counted st) (set cs level (getD cs level 0 + 1)) (set ws slot id) (set fs slot 1)
+        ≡ placeBy st cs ws fs id (chooseOf st cs ws fs id)
+    unfolding placeBy
+    place-inserted o l d = sym (rw (← e, h, ← is, le-ltb (st .limits .«hit_query_position_cap») p l, ← d))
+
+module _ (st : State) (cs ws fs : List ℕ) (id : ℕ) where
+  pub insert-gate : (g : Gate) → gateOf st cs (length ws) (length fs) ≡ gated.Refused g → done (answer.Refused (refusal.Gate g)) st cs ws fs ≡ insertOf st cs ws fs id
+  unfolding insertOf
+  insert-gate g h = sym (rw h)
+
+  pub insert-place : (d : Done) → gateOf st cs (length ws) (length fs) ≡ gated.Passed → d ≡ placeBy st cs ws fs id (chooseOf st cs ws fs id) → d ≡ insertOf st cs ws fs id
+  unfolding insertOf
+  insert-place d h w = w ∙ sym (rw h)

@@ -1,42 +1,34 @@
+-- `elastic::insert::insert` meets its contract: the gate refuses, or the insertion of a table whose tests passed. Assumes nothing.
+use mathlib.Core.Path.{sym, _∙_}
+use Rattle.elastic.specs.StateLaws.{gate-valid}
+use Rattle.elastic.specs.InsertLaws.{insert-gate, insert-place}
 use borrow.Author.Needs.{needs}
 use Rattle.elastic.proofs.insert.insert.Statement.{statement}
 use Rattle.elastic.proofs.insert.insert.Tie as tie
-use Rattle.elastic.proofs.insert.insert.Reads as reads
-use Rattle.elastic.proofs.insert.insert.Lts as lts
-use Rattle.elastic.proofs.insert.place.Reads as place-reads
-use Rattle.elastic.proofs.state.state_gate.Reads as state-gate-reads
 
--- src/insert.rt:121:11
 state-gate-requires : tie.Need-state-gate-requires
 state-gate-requires c κs = search needs
 
--- src/insert.rt:122:24
 enum-known-gate : tie.Need-enum-known-gate
 enum-known-gate c = search needs
 
--- src/insert.rt:123:13
 returns : tie.Need-returns
-returns c = ?
+returns c = insert-gate _ _ _ _ _ _ (sym (c .before .before .before .state-gate .ensures) ∙ c .before .gate .given .1)
 
--- src/insert.rt:129:30
 enum-told : tie.Need-enum-told
 enum-told c = search needs
 
--- src/insert.rt:129:13
 place-requires : tie.Need-place-requires
-place-requires c κs = ?
+place-requires c κs = gate-valid _ _ _ _ (sym (c .before .before .before .before .before .state-gate .ensures) ∙ c .before .before .before .enum-told .given .1)
 
--- src/insert.rt:129:13
 same-length : tie.Need-same-length
 same-length c = search needs
 
--- src/insert.rt:129:13
 same-length-2 : tie.Need-same-length-2
 same-length-2 c = search needs
 
--- src/insert.rt:129:13
 returns-2 : tie.Need-returns-2
-returns-2 c = ?
+returns-2 c = insert-place _ _ _ _ _ _ (sym (c .before .before .before .before .before .before .before .before .before .before .state-gate .ensures) ∙ c .before .before .before .before .before .before .before .before .enum-told .given .1) (c .before .before .before .before .place .ensures)
 
 pub insert-spec : {M : Type 1} → statement M
 insert-spec =
