@@ -1,5 +1,8 @@
 pub mod Insert
 pub mod InsertLaws
+pub mod Query
+pub mod QueryLaws
+pub mod QuerySteps
 pub mod Reading
 pub mod ReadingLaws
 pub mod State

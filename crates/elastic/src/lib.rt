@@ -15,5 +15,6 @@
 //     query.rt     the query, by mapped positions alone
 
 pub mod insert;
+pub mod query;
 pub mod route;
 pub mod state;

@@ -1,0 +1,207 @@
+-- Laws of the query: the walk over all positions is that over the mapped ones, node by node. Assumes nothing.
+use mathlib.Core.Bool.{Bool, true, false}
+use mathlib.Core.List.{List}
+use mathlib.Core.Path.{_≡_, refl, ap, sym, subst, _∙_}
+use Prim.Native.Nat.{ℕ, zero, suc, _+_, _*_, _-_, _/_, _%_, _^_, _≤_, _<_, min}
+use native.Mathlib.Nat.{pow-suc, pow-zero, zero-add, lt-of-not-le, mul-le-mul-right, mul-le-mul-left}
+use native.Mathlib.Omega.{arith}
+use native.Mathlib.Decide.{decLe}
+use lib.Dec.{ltb, leb, eqb}
+use lib.ListN.{length}
+use lib.Pow.{pow-pos, pow-mono}
+use borrow.Author.Tests.{lt-ltb, le-ltb, le-leb, lt-leb, eq-eqb, ne-eqb}
+use Rattle.refusal.specs.declared.RangeRefusal.{RangeRefusal}
+use Rattle.refusal.specs.declared.Gate.{Gate}
+use Rattle.words.specs.Pick.{pick}
+use Rattle.geometry.specs.declared.config.Gated.the-variants as gated
+use Rattle.geometry.specs.Elastic.{levelsOf}
+use Rattle.probe.specs.Length.{bitsOf, lengthIn}
+use Rattle.probe.specs.LengthLaws.{Top}
+use Rattle.probe.specs.Phi.{pairs, Coords, gap, at, start, coordsOf}
+use Rattle.probe.specs.OrderLaws.{pairs-mono}
+use Rattle.probe.specs.PhiLaws.{top-half, top-zero}
+use Rattle.probe.specs.TreeLaws.{Node, node-mapped, node-empty, node-root, node-pos, node-j, Next}
+use Rattle.probe.specs.Word.{elasticKeyOf}
+use Rattle.elastic.specs.declared.state.State.{State}
+use Rattle.elastic.specs.declared.route.Reading.{Reading}
+use Rattle.elastic.specs.declared.route.Reading.the-variants as reading
+use Rattle.elastic.specs.declared.query.QueryAnswer.{QueryAnswer}
+use Rattle.elastic.specs.declared.query.QueryAnswer.the-variants as answer
+use Rattle.elastic.specs.declared.query.Scan.{Scan}
+use Rattle.elastic.specs.declared.query.Scan.the-variants as scan
+use Rattle.elastic.specs.State.{gateOf, Valid}
+use Rattle.elastic.specs.Reading.{readingOf, holdsAt, Probed}
+use Rattle.elastic.specs.Query.{within, foundAt, Tally, nothing, counted, walkBy, walkOf, positionsOf, queryBy, queryOf}
+use Rattle.elastic.specs.QuerySteps.{upTo, from, charged, Missed, Fine, scanTold, scanFine, Scanned, Queried, Scanning}
+
+-- ---- the walk, position by position
+
+one-gap : coordsOf 1 ≡ gap
+unfolding coordsOf start bitsOf lengthIn
+one-gap = refl
+
+two-gap : coordsOf 2 ≡ gap
+unfolding coordsOf start bitsOf lengthIn
+two-gap = refl
+
+pub charged-most : (i j words c : ℕ) → c ≡ charged i j words → c ≤ words
+unfolding charged
+charged-most i j words c e = rw e (go (eqb (i - 1 + (j - 1)) 0))
+  where
+    go : (x : Bool) → pick x 0 words ≤ words
+    go true = omega arith
+    go false = omega arith
+
+same : (x : Bool) → pick x true true ≡ true
+same true = refl
+same false = refl
+
+module _ (route : ℕ → ℕ → Reading) (holds : ℕ → Bool) (levels cap : ℕ) where
+  pub from-end : (p m w : ℕ) → cap < p → from route holds levels cap p m w ≡ answer.Absent
+  unfolding from walkOf
+  from-end p m w h = let e : cap + 1 - p ≡ 0 = omega arith in rw e
+
+  one-more : (p : ℕ) → p ≤ cap → cap + 1 - p ≡ suc (cap + 1 - (p + 1))
+  one-more p h = omega arith
+
+  -- level 0 probe 0 is not where the identity is
+  module _ (miss : Missed route holds 0 0) where
+    from-gap : (p m w : ℕ) → m < p → within levels (coordsOf p) ≡ gap → from route holds levels cap p m w ≡ from route holds levels cap (p + 1) m w
+    unfolding from walkOf
+    from-gap p m w h e = go (decLe p cap)
+      where
+        go : Dec (p ≤ cap) → from route holds levels cap p m w ≡ from route holds levels cap (p + 1) m w
+        go (no f) = let l = lt-of-not-le f in from-end p m w l ∙ sym (from-end (p + 1) m w (omega arith))
+        go (yes l) =
+            let g : p - 1 - m + 1 ≡ p + 1 - 1 - m = omega arith in
+            let z : w + 0 ≡ w = omega arith in
+            rw (one-more p l, e, miss .is, miss .other, g, z)
+
+    -- c gaps
+    from-gaps : (c p m w : ℕ) → m < p → ((y : ℕ) → y < c → within levels (coordsOf (p + y)) ≡ gap) → from route holds levels cap p m w ≡ from route holds levels cap (p + c) m w
+    from-gaps zero p m w h e = let z : p + 0 ≡ p = omega arith in rw z
+    from-gaps (suc c) p m w h e =
+        let z : p + 0 ≡ p = omega arith in
+        let first : within levels (coordsOf p) ≡ gap = rw z at (e 0 (omega arith)) in
+        let s : p + 1 + c ≡ p + suc c = omega arith in
+        let more : (y : ℕ) → y < c → within levels (coordsOf (p + 1 + y)) ≡ gap =
+        λ y l. let q : p + 1 + y ≡ p + suc y = omega arith in rw q (e (suc y) (omega arith)) in
+        from-gap p m w h first ∙ from-gaps c (p + 1) m w (omega arith) more ∙ ap (λ (n : ℕ). from route holds levels cap n m w) s
+
+  -- a mapped position
+  module _ (p m w i j : ℕ) (l : p ≤ cap) (h : m < p) (e : within levels (coordsOf p) ≡ at i j) where
+    from-refused : (r : RangeRefusal) → route (i - 1) (j - 1) ≡ reading.Refused r → from route holds levels cap p m w ≡ answer.Range r
+    unfolding from walkOf
+    from-refused r n = rw (one-more p l, e, n)
+
+    module _ (slot words : ℕ) (is : route (i - 1) (j - 1) ≡ reading.Slot slot words) where
+      from-miss : holds slot ≡ false → from route holds levels cap p m w ≡ from route holds levels cap (p + 1) (m + 1) (w + charged i j words)
+      unfolding from walkOf charged
+      from-miss n =
+          let g : p - 1 - m ≡ p + 1 - 1 - (m + 1) = omega arith in
+          rw (one-more p l, e, is, n, same (eqb (i - 1 + (j - 1)) 0), g)
+
+      from-hit : holds slot ≡ true
+          → from route holds levels cap p m w ≡ answer.Found (record { position = p; «global_slot» = record { 0 = slot }; mapped = m + 1; gap = p - (m + 1); words = w + charged i j words })
+      unfolding from walkOf charged
+      from-hit n =
+          let g : p - 1 - m ≡ p - (m + 1) = omega arith in
+          rw (one-more p l, e, is, n, g)
+
+  -- the first position is a gap
+  module _ (l : 0 < cap) where
+    positive : cap ≡ suc (cap - 1)
+    positive = omega arith
+
+    pub first-refused : (r : RangeRefusal) → route 0 0 ≡ reading.Refused r → answer.Range r ≡ positionsOf route holds levels cap
+    unfolding positionsOf walkOf
+    first-refused r n = sym (rw (positive, one-gap, n))
+
+    module _ (slot words : ℕ) (is : route 0 0 ≡ reading.Slot slot words) where
+      pub first-hit : holds slot ≡ true
+          → answer.Found (record { position = 1; «global_slot» = record { 0 = slot }; mapped = 0; gap = 1; words = words }) ≡ positionsOf route holds levels cap
+      unfolding positionsOf walkOf
+      first-hit n = sym (rw (positive, one-gap, is, n, zero-add words))
+
+      first-on : holds slot ≡ false → positionsOf route holds levels cap ≡ from route holds levels cap 2 0 words
+      unfolding positionsOf walkOf from
+      first-on n =
+          let d : suc (cap - 1) + 1 - 2 ≡ cap - 1 = omega arith in
+          rw (positive, one-gap, is, n, zero-add words, d)
+
+      -- and so is the second
+      pub first-miss : (x : QueryAnswer) → holds slot ≡ false → x ≡ from route holds levels cap 3 0 words → x ≡ positionsOf route holds levels cap
+      first-miss x n e =
+          let m : Missed route holds 0 0 = record { slot = slot; words = words; is = is; other = n } in
+          e ∙ sym (first-on n ∙ from-gap m 2 0 words (omega arith) (ap (within levels) two-gap))
+
+  -- ---- along a node
+
+  module _ (b j q : ℕ) (n : Node b j q) where
+    has-i : (i : ℕ) → q / 4 ≤ i → i < 2 * (q / 4) → i ≤ levels → within levels (coordsOf (b + i)) ≡ at i j
+    has-i i lo hi l = rw (node-mapped b j q n i (omega arith) lo hi, le-leb i levels l)
+
+    module _ (miss : Missed route holds 0 0) where
+      along-front : (m w : ℕ) → m < b → from route holds levels cap b m w ≡ from route holds levels cap (b + q / 4) m w
+      along-front m w h = from-gaps miss (q / 4) b m w h (λ y l. ap (within levels) (node-empty b j q n y l))
+
+      along-rest : (i m w : ℕ) → q / 4 ≤ i → i ≤ 2 * (q / 4) → levels < i → m < b + i → from route holds levels cap (b + i) m w ≡ from route holds levels cap (b + 2 * (q / 4)) m w
+      along-rest i m w lo hi l h =
+          let d : b + i + (2 * (q / 4) - i) ≡ b + 2 * (q / 4) = omega arith in
+          from-gaps miss (2 * (q / 4) - i) (b + i) m w h
+          (λ y u.
+          let s : b + i + y ≡ b + (i + y) = omega arith in
+          let v : coordsOf (b + i + y) ≡ at (i + y) j = rw s (node-mapped b j q n (i + y) (omega arith) (omega arith) (omega arith)) in
+          ap (within levels) v ∙ rw (lt-leb (i + y) levels (omega arith)))
+          ∙ ap (λ (x : ℕ). from route holds levels cap x m w) d
+
+  along-next : (e b j q m w : ℕ) → Missed route holds 0 0 → Next e b j q → m < e → from route holds levels cap e m w ≡ from route holds levels cap b m w
+  along-next e b j q m w miss n h =
+      let d : e + (b - e) ≡ b = omega (arith, n .on) in
+      from-gaps miss (b - e) e m w h (λ y u. ap (within levels) (n .gaps (e + y) (omega arith) (omega (arith, n .on))))
+      ∙ ap (λ (x : ℕ). from route holds levels cap x m w) d
+
+-- ---- the probes of positions up to the largest cap
+
+pairs-from : (t j : ℕ) → Top j t → 3 * 4 ^ t ≤ pairs (suc t) j
+unfolding pairs
+pairs-from zero j p = let e = top-zero j p in rw e (omega (arith, pow-zero 4))
+pairs-from (suc t) j p = omega (arith, pairs-from t (j / 2) (top-half j t p), pow-suc 4 t)
+
+four-mono : (a b : ℕ) → a ≤ b → 4 ^ a ≤ 4 ^ b
+four-mono a b h = go a b h
+  where
+    go : (a b : ℕ) → a ≤ b → 4 ^ a ≤ 4 ^ b
+    go zero zero h = omega arith
+    go zero (suc b) h = omega (arith, go zero b (omega arith), pow-suc 4 b)
+    go (suc a) zero h = absurd (omega arith)
+    go (suc a) (suc b) h = omega (arith, go a b (omega arith), pow-suc 4 a, pow-suc 4 b)
+
+-- "984,263,340 is phi(1, 8193) - 1": a later probe's pairs come to more
+late-pairs : (t j : ℕ) → Top j t → 8192 < j → 246065835 ≤ pairs (suc t) j
+unfolding pairs
+late-pairs t j p h = go (decLe 14 t) (decLe t 12)
+  where
+    at-13 : t ≡ 13 → 246065835 ≤ pairs (suc t) j
+    at-13 e =
+        let b : j < 2 * 2 ^ 13 = rw e at (p .below) in
+        rw e (by (decLe j 8193) b)
+      where
+        by : Dec (j ≤ 8193) → j < 2 * 2 ^ 13 → 246065835 ≤ pairs 14 j
+        by (yes l) b = let s : j ≡ 8193 = omega arith in rw s (omega arith)
+        by (no l) b = let g : 8193 < j = lt-of-not-le l in let m : pairs 14 8193 < pairs 14 j = pairs-mono 14 8193 j g (omega arith) in omega (arith, m)
+
+    go : Dec (14 ≤ t) → Dec (t ≤ 12) → 246065835 ≤ pairs (suc t) j
+    go (yes l) d = omega (arith, pairs-from t j p, four-mono 14 t l)
+    go (no l) (yes m) = absurd (omega (arith, p .below, pow-mono m))
+    go (no l) (no m) = let u = lt-of-not-le l in let v = lt-of-not-le m in at-13 (omega arith)
+
+pub node-probe : (b j q : ℕ) → Node b j q → 4 ≤ q → b < 984263340 → j ≤ 8192
+node-probe b j q n four h = go (decLe j 8192)
+  where
+    go : Dec (j ≤ 8192) → j ≤ 8192
+    go (yes l) = l
+    go (no l) =
+        let p = late-pairs (n .t) j (n .top) (lt-of-not-le l) in
+        let m : pairs (suc (n .t)) j * 4 ≤ pairs (suc (n .t)) j * 2 ^ n .r = mul-le-mul-left (pairs (suc (n .t)) j) (omega (arith, n .size)) in
+        absurd (omega (arith, n .is))
