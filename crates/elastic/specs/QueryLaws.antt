@@ -205,3 +205,158 @@ node-probe b j q n four h = go (decLe j 8192)
         let p = late-pairs (n .t) j (n .top) (lt-of-not-le l) in
         let m : pairs (suc (n .t)) j * 4 ≤ pairs (suc (n .t)) j * 2 ^ n .r = mul-le-mul-left (pairs (suc (n .t)) j) (omega (arith, n .size)) in
         absurd (omega (arith, n .is))
+
+-- ---- a scan of a node, as a loop makes it
+
+-- the walk from the node's start is that from where i is tried
+pub record Going (route : ℕ → ℕ → Reading) (holds : ℕ → Bool) (levels cap b q m₀ w₀ i m w : ℕ) : Type 0 where
+  pub same : from route holds levels cap b m₀ w₀ ≡ from route holds levels cap (b + i) m w
+  pub lo : q / 4 ≤ i
+  pub hi : i ≤ 2 * (q / 4)
+  pub fine : Fine (b + i) m w
+
+module _ (route : ℕ → ℕ → Reading) (holds : ℕ → Bool) (levels cap b j q m₀ w₀ : ℕ) (n : Node b j q) where
+  pub going-start : Missed route holds 0 0 → Fine b m₀ w₀ → Going route holds levels cap b q m₀ w₀ (q / 4) m₀ w₀
+  going-start miss f =
+      record {
+        same = along-front route holds levels cap b j q n miss m₀ w₀ (f .few);
+        lo = omega arith;
+        hi = omega arith;
+        fine = record { few = omega (arith, f .few); low = omega (arith, f .low) };
+      }
+
+  module _ (i m w : ℕ) (g : Going route holds levels cap b q m₀ w₀ i m w) where
+    module _ (hi : i < 2 * (q / 4)) (some : i ≤ levels) (up : b + i ≤ cap) where
+      at-i : within levels (coordsOf (b + i)) ≡ at i j
+      at-i = has-i route holds levels cap b j q n i (g .lo) hi some
+
+      pub going-refused : (r : RangeRefusal) → route (i - 1) (j - 1) ≡ reading.Refused r
+          → Scanned (from route holds levels cap b m₀ w₀) (scan.Refused r) (λ m w. from route holds levels cap (b + 2 * (q / 4)) m w) (b + 2 * (q / 4))
+      going-refused r e = record { same = g .same ∙ from-refused route holds levels cap (b + i) m w i j up (g .fine .few) at-i r e; fine = tt }
+
+      module _ (slot words extra : ℕ) (is : route (i - 1) (j - 1) ≡ reading.Slot slot words) (x : extra ≡ charged i j words) where
+        pub going-hit : holds slot ≡ true
+            → Scanned (from route holds levels cap b m₀ w₀) (scan.Hit (b + i) slot (m + 1) (w + extra)) (λ m w. from route holds levels cap (b + 2 * (q / 4)) m w) (b + 2 * (q / 4))
+        going-hit d =
+            record {
+              same = g .same ∙ from-hit route holds levels cap (b + i) m w i j up (g .fine .few) at-i slot words is d
+                ∙ ap (λ (c : ℕ). answer.Found (record { position = b + i; «global_slot» = record { 0 = slot }; mapped = m + 1; gap = b + i - (m + 1); words = w + c })) (sym x);
+              fine = let f = g .fine .few in omega arith;
+            }
+
+        pub going-miss : extra ≤ 8 → holds slot ≡ false → Going route holds levels cap b q m₀ w₀ (i + 1) (m + 1) (w + extra)
+        going-miss few d =
+            let e : b + i + 1 ≡ b + (i + 1) = omega arith in
+            let f = g .fine in
+            record {
+              same = g .same ∙ from-miss route holds levels cap (b + i) m w i j up (g .fine .few) at-i slot words is d
+                ∙ ap (λ (c : ℕ). from route holds levels cap (b + i + 1) (m + 1) (w + c)) (sym x)
+                ∙ ap (λ (p : ℕ). from route holds levels cap p (m + 1) (w + extra)) e;
+              lo = omega (arith, g .lo);
+              hi = omega arith;
+              fine = record { few = omega (arith, f .few); low = let o = f .low in omega arith };
+            }
+
+    pub going-end : Missed route holds 0 0 → min (min (2 * (q / 4)) (levels + 1)) (cap - b + 1) ≤ i → b ≤ cap
+        → Scanned (from route holds levels cap b m₀ w₀) (scan.On m w) (λ m w. from route holds levels cap (b + 2 * (q / 4)) m w) (b + 2 * (q / 4))
+    going-end miss l near =
+        let u = g .hi in
+        let f = g .fine in
+        record {
+          same = g .same ∙ go (decLe (2 * (q / 4)) i) (decLe i levels);
+          fine = record { few = omega (arith, f .few); low = omega (arith, f .low) };
+        }
+      where
+        go : Dec (2 * (q / 4) ≤ i) → Dec (i ≤ levels) → from route holds levels cap (b + i) m w ≡ from route holds levels cap (b + 2 * (q / 4)) m w
+        go (yes a) d = ap (λ (x : ℕ). from route holds levels cap x m w) (omega (arith, g .hi))
+        go (no a) (no d) =
+            let v = lt-of-not-le d in
+            along-rest route holds levels cap b j q n miss i m w (g .lo) (g .hi) v (g .fine .few)
+        go (no a) (yes d) =
+            let v = lt-of-not-le a in
+            from-end route holds levels cap (b + i) m w (omega arith)
+            ∙ sym (from-end route holds levels cap (b + 2 * (q / 4)) m w (omega arith))
+
+-- a level and a probe that a mapped position has, in a table that can be queried
+pub queried-probed : {n last wordCap cap words flags : ℕ} → Queried n last wordCap cap words flags → (level : ℕ) → level ≤ last → Probed n last wordCap level
+queried-probed k level h = record { least = k .least; most = k .most; last-is = k .last-is; has = h; few = k .few }
+
+-- the loop's invariant
+pub record Turn (route : ℕ → ℕ → Reading) (holds : ℕ → Bool) (levels cap b j q m₀ w₀ end i m w : ℕ) : Type 0 where
+  pub going : Going route holds levels cap b q m₀ w₀ i m w
+  pub stop : end ≡ min (min (2 * (q / 4)) (levels + 1)) (cap - b + 1)
+
+-- what a turn of the loop may use
+pub record Turning (levels cap b j q i : ℕ) : Type 0 where
+  pub pos : 0 < i
+  pub hi : i < 2 * (q / 4)
+  pub some : i ≤ levels
+  pub up : b + i ≤ cap
+  pub probe-pos : 0 < j
+  pub probe : j ≤ 8192
+
+pub turning : {route : ℕ → ℕ → Reading} {holds : ℕ → Bool} {levels cap b j q m₀ w₀ end i m w : ℕ} → Turn route holds levels cap b j q m₀ w₀ end i m w
+    → Node b j q → b ≤ cap → cap ≤ 984263340 → i < end → Turning levels cap b j q i
+turning {route} {holds} {levels} {cap} {b} {j} {q} {m₀} {w₀} {end} {i} {m} {w} t n near far l =
+    let s = t .stop in
+    let lo = t .going .lo in
+    let four : 4 ≤ q = omega arith in
+    record {
+      pos = omega arith;
+      hi = omega arith;
+      some = omega arith;
+      up = omega arith;
+      probe-pos = node-pos b j q n;
+      probe = node-probe b j q n four (omega arith);
+    }
+
+-- ---- the walk from node to node, as a loop makes it
+
+pub record Walked (route : ℕ → ℕ → Reading) (holds : ℕ → Bool) (levels cap spent b j q m w : ℕ) : Type 0 where
+  pub rest : from route holds levels cap 3 0 spent ≡ from route holds levels cap b m w
+  pub node : Node b j q
+  pub fine : Fine b m w
+
+module _ (route : ℕ → ℕ → Reading) (holds : ℕ → Bool) (levels cap spent : ℕ) where
+  pub walked-start : spent ≤ 8 → Walked route holds levels cap spent 3 1 1 0 spent
+  walked-start h = record { rest = refl; node = node-root 0; fine = record { few = omega arith; low = omega arith } }
+
+  module _ (b j q m w : ℕ) (k : Walked route holds levels cap spent b j q m w) where
+    pub walked-end : cap < b → answer.Absent ≡ from route holds levels cap 3 0 spent
+    walked-end l = sym (k .rest ∙ from-end route holds levels cap b m w l)
+
+    pub walked-scanning : Missed route holds 0 0 → b ≤ cap → Scanning route holds cap b j q m w
+    walked-scanning miss l = record { node = k .node; miss = miss; near = l; fine = k .fine }
+
+    module _ (r : Scan) (z : Scanned (from route holds levels cap b m w) r (λ m w. from route holds levels cap (b + 2 * (q / 4)) m w) (b + 2 * (q / 4))) where
+      pub walked-hit : (p s x y : ℕ) → r ≡ scan.Hit p s x y
+          → answer.Found (record { position = p; «global_slot» = record { 0 = s }; mapped = x; gap = p - x; words = y }) ≡ from route holds levels cap 3 0 spent
+      walked-hit p s x y e = sym (k .rest ∙ z .same ∙ rw e)
+
+      pub walked-refused : (x : RangeRefusal) → r ≡ scan.Refused x → answer.Range x ≡ from route holds levels cap 3 0 spent
+      walked-refused x e = sym (k .rest ∙ z .same ∙ rw e)
+
+      pub hit-fits : (p s x y : ℕ) → r ≡ scan.Hit p s x y → x ≤ p
+      hit-fits p s x y e = rw e at (z .fine)
+
+      pub walked-on : (x y b' j' q' : ℕ) → Missed route holds 0 0 → r ≡ scan.On x y → Next (b + 2 * (q / 4)) b' j' q' → Walked route holds levels cap spent b' j' q' x y
+      walked-on x y b' j' q' miss e n =
+          let f : Fine (b + 2 * (q / 4)) x y = rw e at (z .fine) in
+          let d : from route holds levels cap b m w ≡ from route holds levels cap (b + 2 * (q / 4)) x y = z .same ∙ rw e in
+          record {
+            rest = k .rest ∙ d ∙ along-next route holds levels cap (b + 2 * (q / 4)) b' j' q' x y miss n (f .few);
+            node = n .node;
+            fine = record { few = omega (arith, f .few, n .on); low = omega (arith, f .low, n .on) };
+          }
+
+-- ---- the query
+
+module _ (st : State) (cs ws fs : List ℕ) (id : ℕ) where
+  pub query-gate : (g : Gate) → gateOf st cs (length ws) (length fs) ≡ gated.Refused g → answer.Refused g ≡ queryOf st cs ws fs id
+  unfolding queryOf
+  query-gate g h = sym (rw h)
+
+  pub query-walk : (x : QueryAnswer) (key levels : ℕ) → gateOf st cs (length ws) (length fs) ≡ gated.Passed → key ≡ elasticKeyOf (st .seed) id → levels ≡ st .plan .levels
+      → x ≡ positionsOf (readingOf (st .n) key (st .limits .«range_word_cap»)) (holdsAt ws fs id) levels (st .limits .«hit_query_position_cap») → x ≡ queryOf st cs ws fs id
+  unfolding queryOf
+  query-walk x key levels h a b w = w ∙ sym (rw (h, ← a, ← b))

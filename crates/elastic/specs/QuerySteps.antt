@@ -59,6 +59,7 @@ pub record Queried (n last wordCap cap words flags : ℕ) : Type 0 where
   pub least : 2 ≤ n
   pub most : n ≤ 4294967296
   pub last-is : last + 1 ≡ levelsOf n
+  pub short : last < 32
   pub few : wordCap ≤ 8
   pub near : cap ≤ 984263340
   pub words-size : words ≡ n

@@ -1,109 +1,126 @@
+-- `elastic::query::along` meets its contract. The loop's invariant: the walk from the node's start is that from where i is tried. Assumes nothing.
+use mathlib.Core.Path.{_≡_, refl, sym, _∙_}
+use Prim.Native.Nat.{_-_, _+_}
+use native.Mathlib.Omega.{arith}
+use borrow.Author.Needs.{needs}
+use Rattle.elastic.specs.Reading.{readingOf, holdsAt}
+use Rattle.elastic.specs.ReadingLaws.{reading-read}
+use Rattle.elastic.specs.QueryLaws.{Turn, turning, queried-probed, charged-most, going-start, going-refused, going-hit, going-miss, going-end}
 use Rattle.elastic.proofs.query.along.Statement.{statement}
 use Rattle.elastic.proofs.query.along.Tie as tie
-use Rattle.elastic.proofs.query.along.Reads as reads
-use Rattle.elastic.proofs.query.along.Lts as lts
-use Rattle.elastic.proofs.query.charge.Reads as charge-reads
-use Rattle.elastic.proofs.query.least.Reads as least-reads
-use Rattle.elastic.proofs.route.holds.Reads as holds-reads
-use Rattle.elastic.proofs.route.route.Reads as route-reads
 
 abbrev Inv-loop : tie.InvT-loop
-Inv-loop words flags b j q mapped spent id key n last word-cap cap quarter end i₀ m₀ w₀ i m w = ?
+Inv-loop words flags b j q mapped spent id key n last word-cap cap quarter end i₀ m₀ w₀ i m w = Turn (readingOf n key word-cap) (holdsAt words flags id) (last + 1) cap b j q mapped spent end i m w
 
 abbrev μ-loop : tie.MeasureT-loop
-μ-loop words flags b j q mapped spent id key n last word-cap cap quarter end i₀ m₀ w₀ i m w = ?
+μ-loop words flags b j q mapped spent id key n last word-cap cap quarter end i₀ m₀ w₀ i m w = end - i
 
--- src/query.rt:202:27
 mul-least : tie.Need-mul-least Inv-loop μ-loop
-mul-least c = ?
+mul-least c = omega arith
 
--- src/query.rt:202:40
 add-least : tie.Need-add-least Inv-loop μ-loop
-add-least c = ?
+add-least c = omega (arith, c .before .before .pre .0 .short)
 
--- src/query.rt:202:21
 least-requires : tie.Need-least-requires Inv-loop μ-loop
-least-requires c κs = ?
+least-requires c κs = search needs
 
--- src/query.rt:202:51
 sub-least : tie.Need-sub-least Inv-loop μ-loop
-sub-least c = ?
+sub-least c = c .before .before .before .pre .1 .near
 
--- src/query.rt:202:51
 add-least-2 : tie.Need-add-least-2 Inv-loop μ-loop
-add-least-2 c = ?
+add-least-2 c = omega (arith, c .before .before .before .pre .0 .near)
 
--- src/query.rt:202:9
 least-requires-2 : tie.Need-least-requires-2 Inv-loop μ-loop
-least-requires-2 c κs = ?
+least-requires-2 c κs = search needs
 
--- src/query.rt:206:5
 loop-holds : tie.Need-loop-holds Inv-loop μ-loop
-loop-holds c = ?
+loop-holds c =
+    let p = c .before .before .before .before .pre .1 in
+    record { going = going-start _ _ _ _ _ _ _ _ _ (p .node) (p .miss) (p .fine); stop = omega arith }
 
--- src/query.rt:207:45
 sub-route : tie.Need-sub-route Inv-loop μ-loop
-sub-route c = ?
+sub-route c = let t = turning (c .before .loop .inv) (c .before .before .before .before .before .before .pre .1 .node) (c .before .before .before .before .before .before .pre .1 .near) (c .before .before .before .before .before .before .pre .0 .near) (c .loop-test .taken) in t .pos
 
--- src/query.rt:207:52
 sub-route-2 : tie.Need-sub-route-2 Inv-loop μ-loop
-sub-route-2 c = ?
+sub-route-2 c = let t = turning (c .before .loop .inv) (c .before .before .before .before .before .before .pre .1 .node) (c .before .before .before .before .before .before .pre .1 .near) (c .before .before .before .before .before .before .pre .0 .near) (c .loop-test .taken) in t .probe-pos
 
--- src/query.rt:207:15
 route-requires : tie.Need-route-requires Inv-loop μ-loop
-route-requires c κs = ?
+route-requires c κs =
+    let t = turning (c .before .loop .inv) (c .before .before .before .before .before .before .pre .1 .node) (c .before .before .before .before .before .before .pre .1 .near) (c .before .before .before .before .before .before .pre .0 .near) (c .loop-test .taken) in
+    (queried-probed (c .before .before .before .before .before .before .pre .0) _ (omega (arith, t .some, t .pos)), omega (arith, t .probe, t .probe-pos))
 
--- src/query.rt:208:30
 enum-known-refusal : tie.Need-enum-known-refusal Inv-loop μ-loop
-enum-known-refusal c = ?
+enum-known-refusal c = search needs
 
--- src/query.rt:209:17
 returns : tie.Need-returns Inv-loop μ-loop
-returns c = ?
+returns c =
+    let t = turning (c .before .before .before .before .before .loop .inv) (c .before .before .before .before .before .before .before .before .before .before .pre .1 .node) (c .before .before .before .before .before .before .before .before .before .before .pre .1 .near) (c .before .before .before .before .before .before .before .before .before .before .pre .0 .near) (c .before .before .before .before .loop-test .taken) in
+    going-refused _ _ _ _ _ _ _ _ _ (c .before .before .before .before .before .before .before .before .before .before .pre .1 .node) _ _ _ (c .before .before .before .before .before .loop .inv .going) (t .hi) (t .some) (t .up) _ (sym (c .before .before .before .route .ensures) ∙ c .before .refusal .given .1)
 
--- src/query.rt:211:29
 enum-known-slot : tie.Need-enum-known-slot Inv-loop μ-loop
-enum-known-slot c = ?
+enum-known-slot c = search needs
 
--- src/query.rt:212:22
 charge-requires : tie.Need-charge-requires Inv-loop μ-loop
-charge-requires c κs = ?
+charge-requires c κs =
+    let t = turning (c .before .before .before .before .before .loop .inv) (c .before .before .before .before .before .before .before .before .before .before .pre .1 .node) (c .before .before .before .before .before .before .before .before .before .before .pre .1 .near) (c .before .before .before .before .before .before .before .before .before .before .pre .0 .near) (c .before .before .before .before .loop-test .taken) in
+    (t .pos, t .probe-pos, omega (arith, t .some, c .before .before .before .before .before .before .before .before .before .before .pre .0 .short), omega (arith, t .probe))
 
--- src/query.rt:212:17
 add-w : tie.Need-add-w Inv-loop μ-loop
-add-w c = ?
+add-w c =
+    let t = turning (c .before .before .before .before .before .before .loop .inv) (c .before .before .before .before .before .before .before .before .before .before .before .pre .1 .node) (c .before .before .before .before .before .before .before .before .before .before .before .pre .1 .near) (c .before .before .before .before .before .before .before .before .before .before .before .pre .0 .near) (c .before .before .before .before .before .loop-test .taken) in
+    let r = reading-read (queried-probed (c .before .before .before .before .before .before .before .before .before .before .before .pre .0) _ (omega (arith, t .some, t .pos))) _ _ _ _ (sym (c .before .before .before .before .route .ensures) ∙ c .before .before .slot .given .1) in
+    let k = charged-most _ _ _ _ (c .charge .ensures) in
+    let f = c .before .before .before .before .before .before .loop .inv .going .fine in
+    omega (arith, r .most, c .before .before .before .before .before .before .before .before .before .before .before .pre .0 .few, f .low, t .up, c .before .before .before .before .before .before .before .before .before .before .before .pre .0 .near)
 
--- src/query.rt:213:17
 add-m : tie.Need-add-m Inv-loop μ-loop
-add-m c = ?
+add-m c =
+    let t = turning (c .before .before .before .before .before .before .loop .inv) (c .before .before .before .before .before .before .before .before .before .before .before .pre .1 .node) (c .before .before .before .before .before .before .before .before .before .before .before .pre .1 .near) (c .before .before .before .before .before .before .before .before .before .before .before .pre .0 .near) (c .before .before .before .before .before .loop-test .taken) in
+    let f = c .before .before .before .before .before .before .loop .inv .going .fine in
+    omega (arith, f .few, t .up, c .before .before .before .before .before .before .before .before .before .before .before .pre .0 .near)
 
--- src/query.rt:214:20
 holds-requires : tie.Need-holds-requires Inv-loop μ-loop
-holds-requires c κs = ?
+holds-requires c κs =
+    let t = turning (c .before .before .before .before .before .before .loop .inv) (c .before .before .before .before .before .before .before .before .before .before .before .pre .1 .node) (c .before .before .before .before .before .before .before .before .before .before .before .pre .1 .near) (c .before .before .before .before .before .before .before .before .before .before .before .pre .0 .near) (c .before .before .before .before .before .loop-test .taken) in
+    let r = reading-read (queried-probed (c .before .before .before .before .before .before .before .before .before .before .before .pre .0) _ (omega (arith, t .some, t .pos))) _ _ _ _ (sym (c .before .before .before .before .route .ensures) ∙ c .before .before .slot .given .1) in
+    let q = c .before .before .before .before .before .before .before .before .before .before .before .pre .0 in
+    (omega (arith, r .below, q .words-size), omega (arith, r .below, q .flags-size))
 
--- src/query.rt:216:35
 add-t34 : tie.Need-add-t34 Inv-loop μ-loop
-add-t34 c = ?
+add-t34 c =
+    let t = turning (c .before .before .before .before .before .before .before .before .loop .inv) (c .before .before .before .before .before .before .before .before .before .before .before .before .before .pre .1 .node) (c .before .before .before .before .before .before .before .before .before .before .before .before .before .pre .1 .near) (c .before .before .before .before .before .before .before .before .before .before .before .before .before .pre .0 .near) (c .before .before .before .before .before .before .before .loop-test .taken) in
+    omega (arith, t .up, c .before .before .before .before .before .before .before .before .before .before .before .before .before .pre .0 .near)
 
--- src/query.rt:215:21
 returns-2 : tie.Need-returns-2 Inv-loop μ-loop
-returns-2 c = ?
+returns-2 c =
+    let t = turning (c .before .before .before .before .before .before .before .before .loop .inv) (c .before .before .before .before .before .before .before .before .before .before .before .before .before .pre .1 .node) (c .before .before .before .before .before .before .before .before .before .before .before .before .before .pre .1 .near) (c .before .before .before .before .before .before .before .before .before .before .before .before .before .pre .0 .near) (c .before .before .before .before .before .before .before .loop-test .taken) in
+    going-hit _ _ _ _ _ _ _ _ _ (c .before .before .before .before .before .before .before .before .before .before .before .before .before .pre .1 .node) _ _ _ (c .before .before .before .before .before .before .before .before .loop .inv .going) (t .hi) (t .some) (t .up) _ _ _ (sym (c .before .before .before .before .before .before .route .ensures) ∙ c .before .before .before .before .slot .given .1) (c .before .before .charge .ensures)
+    (sym (c .before .holds .ensures) ∙ c .if1 .taken)
 
--- src/query.rt:224:9
 add-i : tie.Need-add-i Inv-loop μ-loop
-add-i c = ?
+add-i c =
+    let t = turning (c .before .before .before .before .before .before .before .before .loop .inv) (c .before .before .before .before .before .before .before .before .before .before .before .before .before .pre .1 .node) (c .before .before .before .before .before .before .before .before .before .before .before .before .before .pre .1 .near) (c .before .before .before .before .before .before .before .before .before .before .before .before .before .pre .0 .near) (c .before .before .before .before .before .before .before .loop-test .taken) in
+    omega (arith, t .some, c .before .before .before .before .before .before .before .before .before .before .before .before .before .pre .0 .short)
 
--- src/query.rt:206:5
 loop-less : tie.Need-loop-less Inv-loop μ-loop
-loop-less c = ?
+loop-less c = omega arith
 
--- src/query.rt:206:5
 loop-again : tie.Need-loop-again Inv-loop μ-loop
-loop-again c = ?
+loop-again c =
+    let t = turning (c .before .before .before .before .before .before .before .before .loop .inv) (c .before .before .before .before .before .before .before .before .before .before .before .before .before .pre .1 .node) (c .before .before .before .before .before .before .before .before .before .before .before .before .before .pre .1 .near) (c .before .before .before .before .before .before .before .before .before .before .before .before .before .pre .0 .near) (c .before .before .before .before .before .before .before .loop-test .taken) in
+    let r = reading-read (queried-probed (c .before .before .before .before .before .before .before .before .before .before .before .before .before .pre .0) _ (omega (arith, t .some, t .pos))) _ _ _ _ (sym (c .before .before .before .before .before .before .route .ensures) ∙ c .before .before .before .before .slot .given .1) in
+    let k = charged-most _ _ _ _ (c .before .before .charge .ensures) in
+    record {
+      going = going-miss _ _ _ _ _ _ _ _ _ (c .before .before .before .before .before .before .before .before .before .before .before .before .before .pre .1 .node) _ _ _ (c .before .before .before .before .before .before .before .before .loop .inv .going) (t .hi) (t .some) (t .up) _ _ _ (sym (c .before .before .before .before .before .before .route .ensures) ∙ c .before .before .before .before .slot .given .1) (c .before .before .charge .ensures)
+        (omega (arith, r .most, c .before .before .before .before .before .before .before .before .before .before .before .before .before .pre .0 .few)) (sym (c .before .holds .ensures) ∙ c .if1 .left);
+      stop = c .before .before .before .before .before .before .before .before .loop .inv .stop;
+    }
 
--- src/query.rt:179:1
 returns-3 : tie.Need-returns-3 Inv-loop μ-loop
-returns-3 c = ?
+returns-3 c =
+    let p = c .before .before .before .before .before .before .pre .1 in
+    let t = c .before .loop .inv in
+    going-end _ _ _ _ _ _ _ _ _ (p .node) _ _ _ (t .going) (p .miss) (omega (arith, c .loop-test .left, t .stop)) (p .near)
 
 pub along-spec : {M : Type 1} → statement M
 along-spec =
