@@ -15,6 +15,7 @@ use Rattle.refusal.specs.declared.Gate.{Gate}
 use Rattle.words.specs.Pick.{pick}
 use Rattle.geometry.specs.declared.config.Gated.the-variants as gated
 use Rattle.geometry.specs.Elastic.{levelsOf}
+use Rattle.geometry.specs.ElasticLaws.{levels-facts}
 use Rattle.probe.specs.Length.{bitsOf, lengthIn}
 use Rattle.probe.specs.LengthLaws.{Top}
 use Rattle.probe.specs.Phi.{pairs, Coords, gap, at, start, coordsOf}
@@ -240,7 +241,7 @@ module _ (route : ℕ → ℕ → Reading) (holds : ℕ → Bool) (levels cap b 
         going-hit d =
             record {
               same = g .same ∙ from-hit route holds levels cap (b + i) m w i j up (g .fine .few) at-i slot words is d
-                ∙ ap (λ (c : ℕ). answer.Found (record { position = b + i; «global_slot» = record { 0 = slot }; mapped = m + 1; gap = b + i - (m + 1); words = w + c })) (sym x);
+                  ∙ ap (λ (c : ℕ). answer.Found (record { position = b + i; «global_slot» = record { 0 = slot }; mapped = m + 1; gap = b + i - (m + 1); words = w + c })) (sym x);
               fine = let f = g .fine .few in omega arith;
             }
 
@@ -250,8 +251,8 @@ module _ (route : ℕ → ℕ → Reading) (holds : ℕ → Bool) (levels cap b 
             let f = g .fine in
             record {
               same = g .same ∙ from-miss route holds levels cap (b + i) m w i j up (g .fine .few) at-i slot words is d
-                ∙ ap (λ (c : ℕ). from route holds levels cap (b + i + 1) (m + 1) (w + c)) (sym x)
-                ∙ ap (λ (p : ℕ). from route holds levels cap p (m + 1) (w + extra)) e;
+                  ∙ ap (λ (c : ℕ). from route holds levels cap (b + i + 1) (m + 1) (w + c)) (sym x)
+                  ∙ ap (λ (p : ℕ). from route holds levels cap p (m + 1) (w + extra)) e;
               lo = omega (arith, g .lo);
               hi = omega arith;
               fine = record { few = omega (arith, f .few); low = let o = f .low in omega arith };
@@ -350,6 +351,27 @@ module _ (route : ℕ → ℕ → Reading) (holds : ℕ → Bool) (levels cap sp
           }
 
 -- ---- the query
+
+-- a table whose tests pass can be queried
+module _ {st : State} {cs : List ℕ} {words flags : ℕ} (v : Valid st cs words flags) where
+  pub valid-levels : 1 ≤ st .plan .levels
+  valid-levels = omega (arith, v .levels-is, levels-facts (st .n) (st .e) (v .config) .some)
+
+  pub valid-queried : Queried (st .n) (st .plan .levels - 1) (st .limits .«range_word_cap») (st .limits .«hit_query_position_cap») words flags × (0 < st .limits .«hit_query_position_cap»)
+  valid-queried =
+      let f = levels-facts (st .n) (st .e) (v .config) in (
+        record {
+          least = v .config .least;
+          most = v .config .most;
+          last-is = omega (arith, v .levels-is, f .some);
+          short = omega (arith, v .levels-is, f .some, f .few);
+          few = v .limits .words-most;
+          near = v .limits .position-most;
+          words-size = v .words-size;
+          flags-size = v .flags-size;
+        },
+        v .limits .position-some,
+      )
 
 module _ (st : State) (cs ws fs : List ℕ) (id : ℕ) where
   pub query-gate : (g : Gate) → gateOf st cs (length ws) (length fs) ≡ gated.Refused g → answer.Refused g ≡ queryOf st cs ws fs id

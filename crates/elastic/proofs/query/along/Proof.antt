@@ -1,6 +1,6 @@
 -- `elastic::query::along` meets its contract. The loop's invariant: the walk from the node's start is that from where i is tried. Assumes nothing.
 use mathlib.Core.Path.{_≡_, refl, sym, _∙_}
-use Prim.Native.Nat.{_-_, _+_}
+use Prim.Native.Nat.{ℕ, _-_, _+_, _<_}
 use native.Mathlib.Omega.{arith}
 use borrow.Author.Needs.{needs}
 use Rattle.elastic.specs.Reading.{readingOf, holdsAt}
@@ -8,6 +8,9 @@ use Rattle.elastic.specs.ReadingLaws.{reading-read}
 use Rattle.elastic.specs.QueryLaws.{Turn, turning, queried-probed, charged-most, going-start, going-refused, going-hit, going-miss, going-end}
 use Rattle.elastic.proofs.query.along.Statement.{statement}
 use Rattle.elastic.proofs.query.along.Tie as tie
+
+fewer : (end i : ℕ) → i < end → end - (i + 1) < end - i
+fewer end i h = omega arith
 
 abbrev Inv-loop : tie.InvT-loop
 Inv-loop words flags b j q mapped spent id key n last word-cap cap quarter end i₀ m₀ w₀ i m w = Turn (readingOf n key word-cap) (holdsAt words flags id) (last + 1) cap b j q mapped spent end i m w
@@ -103,7 +106,7 @@ add-i c =
     omega (arith, t .some, c .before .before .before .before .before .before .before .before .before .before .before .before .before .pre .0 .short)
 
 loop-less : tie.Need-loop-less Inv-loop μ-loop
-loop-less c = omega arith
+loop-less c = fewer _ _ (c .before .before .before .before .before .before .before .loop-test .taken)
 
 loop-again : tie.Need-loop-again Inv-loop μ-loop
 loop-again c =
@@ -112,7 +115,7 @@ loop-again c =
     let k = charged-most _ _ _ _ (c .before .before .charge .ensures) in
     record {
       going = going-miss _ _ _ _ _ _ _ _ _ (c .before .before .before .before .before .before .before .before .before .before .before .before .before .pre .1 .node) _ _ _ (c .before .before .before .before .before .before .before .before .loop .inv .going) (t .hi) (t .some) (t .up) _ _ _ (sym (c .before .before .before .before .before .before .route .ensures) ∙ c .before .before .before .before .slot .given .1) (c .before .before .charge .ensures)
-        (omega (arith, r .most, c .before .before .before .before .before .before .before .before .before .before .before .before .before .pre .0 .few)) (sym (c .before .holds .ensures) ∙ c .if1 .left);
+          (omega (arith, r .most, c .before .before .before .before .before .before .before .before .before .before .before .before .before .pre .0 .few)) (sym (c .before .holds .ensures) ∙ c .if1 .left);
       stop = c .before .before .before .before .before .before .before .before .loop .inv .stop;
     }
 

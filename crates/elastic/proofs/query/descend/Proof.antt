@@ -1,63 +1,54 @@
+-- `elastic::query::descend` meets its contract. The loop's invariant: the walk from position 3 is that from this node on. Assumes nothing.
+use mathlib.Core.Path.{_≡_, sym, _∙_}
+use Prim.Native.Nat.{_-_, _+_}
+use native.Mathlib.Omega.{arith}
+use borrow.Author.Needs.{needs}
+use Rattle.elastic.specs.Reading.{readingOf, holdsAt}
+use Rattle.elastic.specs.QueryLaws.{Walked, walked-start, walked-end, walked-scanning, walked-hit, walked-refused, hit-fits, walked-on}
 use Rattle.elastic.proofs.query.descend.Statement.{statement}
 use Rattle.elastic.proofs.query.descend.Tie as tie
-use Rattle.elastic.proofs.query.descend.Reads as reads
-use Rattle.elastic.proofs.query.descend.Lts as lts
-use Rattle.elastic.proofs.query.along.Reads as along-reads
-use Rattle.elastic.proofs.query.step.Reads as step-reads
 
 abbrev Inv-loop : tie.InvT-loop
-Inv-loop words flags look spent cap b₀ j₀ q₀ m₀ w₀ b j q m w = ?
+Inv-loop words flags look spent cap b₀ j₀ q₀ m₀ w₀ b j q m w = Walked (readingOf (look .n) (look .key) (look .«word_cap»)) (holdsAt words flags (look .id)) (look .last + 1) (look .cap) spent b j q m w
 
 abbrev μ-loop : tie.MeasureT-loop
-μ-loop words flags look spent cap b₀ j₀ q₀ m₀ w₀ b j q m w = ?
+μ-loop words flags look spent cap b₀ j₀ q₀ m₀ w₀ b j q m w = cap + 1 - b
 
--- src/query.rt:142:5
 loop-holds : tie.Need-loop-holds Inv-loop μ-loop
-loop-holds c = ?
+loop-holds c = walked-start _ _ _ _ _ (c .before .before .pre .2)
 
--- src/query.rt:143:15
 along-requires : tie.Need-along-requires Inv-loop μ-loop
-along-requires c κs = ?
+along-requires c κs = (c .before .before .before .before .pre .0, walked-scanning _ _ _ _ _ _ _ _ _ _ (c .before .loop .inv) (c .before .before .before .before .pre .1) (c .loop-test .taken))
 
--- src/query.rt:145:17
 enum-known-position : tie.Need-enum-known-position Inv-loop μ-loop
-enum-known-position c = ?
+enum-known-position c = search needs
 
--- src/query.rt:154:26
 sub-t23 : tie.Need-sub-t23 Inv-loop μ-loop
-sub-t23 c = ?
+sub-t23 c = hit-fits _ _ _ _ _ _ _ _ _ _ (c .before .before .before .before .before .loop .inv) _ (c .before .before .before .along .ensures) _ _ _ _ (c .before .position .given .1)
 
--- src/query.rt:157:17
 returns : tie.Need-returns Inv-loop μ-loop
-returns c = ?
+returns c = walked-hit _ _ _ _ _ _ _ _ _ _ (c .before .before .before .before .before .loop .inv) _ (c .before .before .before .along .ensures) _ _ _ _ (c .before .position .given .1)
 
--- src/query.rt:159:27
 enum-known-refusal : tie.Need-enum-known-refusal Inv-loop μ-loop
-enum-known-refusal c = ?
+enum-known-refusal c = search needs
 
--- src/query.rt:160:17
 returns-2 : tie.Need-returns-2 Inv-loop μ-loop
-returns-2 c = ?
+returns-2 c = walked-refused _ _ _ _ _ _ _ _ _ _ (c .before .before .before .before .before .loop .inv) _ (c .before .before .before .along .ensures) _ (c .before .refusal .given .1)
 
--- src/query.rt:163:25
 enum-known-more : tie.Need-enum-known-more Inv-loop μ-loop
-enum-known-more c = ?
+enum-known-more c = search needs
 
--- src/query.rt:170:13
 step-requires : tie.Need-step-requires Inv-loop μ-loop
-step-requires c κs = ?
+step-requires c κs = (c .before .before .before .before .before .loop .inv .node, omega (arith, c .before .before .before .before .before .before .before .before .pre .0 .near, c .before .before .before .before .loop-test .taken))
 
--- src/query.rt:142:5
 loop-less : tie.Need-loop-less Inv-loop μ-loop
-loop-less c = ?
+loop-less c = omega (arith, c .step .ensures .1, c .before .before .before .before .before .loop-test .taken)
 
--- src/query.rt:142:5
 loop-again : tie.Need-loop-again Inv-loop μ-loop
-loop-again c = ?
+loop-again c = walked-on _ _ _ _ _ _ _ _ _ _ (c .before .before .before .before .before .before .loop .inv) _ (c .before .before .before .before .along .ensures) _ _ _ _ _ (c .before .before .before .before .before .before .before .before .before .pre .1) (c .before .before .more .given .1) (c .step .ensures .0)
 
--- src/query.rt:131:1
 returns-3 : tie.Need-returns-3 Inv-loop μ-loop
-returns-3 c = ?
+returns-3 c = walked-end _ _ _ _ _ _ _ _ _ _ (c .before .loop .inv) (c .loop-test .left)
 
 pub descend-spec : {M : Type 1} → statement M
 descend-spec =

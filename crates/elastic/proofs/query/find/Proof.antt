@@ -1,43 +1,41 @@
+-- `elastic::query::find` meets its contract: the first position is a gap, and so is the second. Assumes nothing.
+use mathlib.Core.Path.{_≡_, sym, _∙_}
+use native.Mathlib.Omega.{arith}
+use Rattle.elastic.specs.ReadingLaws.{reading-read}
+use Rattle.elastic.specs.QueryLaws.{queried-probed, first-refused, first-hit, first-miss}
 use borrow.Author.Needs.{needs}
 use Rattle.elastic.proofs.query.find.Statement.{statement}
 use Rattle.elastic.proofs.query.find.Tie as tie
-use Rattle.elastic.proofs.query.find.Reads as reads
-use Rattle.elastic.proofs.query.find.Lts as lts
-use Rattle.elastic.proofs.query.descend.Reads as descend-reads
-use Rattle.elastic.proofs.route.holds.Reads as holds-reads
-use Rattle.elastic.proofs.route.route.Reads as route-reads
 
--- src/query.rt:110:11
 route-requires : tie.Need-route-requires
 route-requires c κs = search needs
 
--- src/query.rt:111:26
 enum-known-refusal : tie.Need-enum-known-refusal
 enum-known-refusal c = search needs
 
--- src/query.rt:112:13
 returns : tie.Need-returns
-returns c = ?
+returns c = first-refused _ _ _ _ (c .before .before .before .before .before .before .pre .1) _ (sym (c .before .before .before .route .ensures) ∙ c .before .refusal .given .1)
 
--- src/query.rt:114:25
 enum-known-slot : tie.Need-enum-known-slot
 enum-known-slot c = search needs
 
--- src/query.rt:115:16
 holds-requires : tie.Need-holds-requires
-holds-requires c κs = ?
+holds-requires c κs =
+    let q = c .before .before .before .before .before .before .pre .0 in
+    let r = reading-read (queried-probed q 0 (omega arith)) _ _ _ _ (sym (c .before .before .before .route .ensures) ∙ c .before .slot .given .1) in
+    (omega (arith, r .below, q .words-size), omega (arith, r .below, q .flags-size))
 
--- src/query.rt:123:17
 returns-2 : tie.Need-returns-2
-returns-2 c = ?
+returns-2 c = first-hit _ _ _ _ (c .before .before .before .before .before .before .before .before .pre .1) _ _ (sym (c .before .before .before .before .before .route .ensures) ∙ c .before .before .before .slot .given .1) (sym (c .before .holds .ensures) ∙ c .if1 .taken)
 
--- src/query.rt:125:13
 descend-requires : tie.Need-descend-requires
-descend-requires c κs = ?
+descend-requires c κs =
+    let q = c .before .before .before .before .before .before .before .before .pre .0 in
+    let r = reading-read (queried-probed q 0 (omega arith)) _ _ _ _ (sym (c .before .before .before .before .before .route .ensures) ∙ c .before .before .before .slot .given .1) in
+    (q, record { slot = _; words = _; is = (sym (c .before .before .before .before .before .route .ensures) ∙ c .before .before .before .slot .given .1); other = sym (c .before .holds .ensures) ∙ c .if1 .left }, omega (arith, r .most, q .few))
 
--- src/query.rt:125:13
 returns-3 : tie.Need-returns-3
-returns-3 c = ?
+returns-3 c = first-miss _ _ _ _ (c .before .before .before .before .before .before .before .before .before .pre .1) _ _ (sym (c .before .before .before .before .before .before .route .ensures) ∙ c .before .before .before .before .slot .given .1) _ (sym (c .before .before .holds .ensures) ∙ c .before .if1 .left) (c .descend .ensures)
 
 pub find-spec : {M : Type 1} → statement M
 find-spec =

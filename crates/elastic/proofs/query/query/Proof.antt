@@ -1,43 +1,38 @@
+-- `elastic::query::query` meets its contract: the gate refuses, or the walk over the positions. Assumes nothing.
+use mathlib.Core.Path.{_≡_, sym, _∙_}
+use native.Mathlib.Omega.{arith}
+use Rattle.elastic.specs.StateLaws.{gate-valid}
+use Rattle.elastic.specs.QueryLaws.{valid-levels, valid-queried, query-gate, query-walk}
 use borrow.Author.Needs.{needs}
 use Rattle.elastic.proofs.query.query.Statement.{statement}
 use Rattle.elastic.proofs.query.query.Tie as tie
-use Rattle.elastic.proofs.query.query.Reads as reads
-use Rattle.elastic.proofs.query.query.Lts as lts
-use Rattle.elastic.proofs.query.find.Reads as find-reads
-use Rattle.elastic.proofs.state.state_gate.Reads as state-gate-reads
-use Rattle.probe.proofs.word.elastic_key.Reads as elastic-key-reads
 
--- src/query.rt:84:11
 state-gate-requires : tie.Need-state-gate-requires
 state-gate-requires c κs = search needs
 
--- src/query.rt:85:24
 enum-known-gate : tie.Need-enum-known-gate
 enum-known-gate c = search needs
 
--- src/query.rt:86:13
 returns : tie.Need-returns
-returns c = ?
+returns c = query-gate _ _ _ _ _ _ (sym (c .before .before .before .state-gate .ensures) ∙ c .before .gate .given .1)
 
--- src/query.rt:89:17
 enum-told : tie.Need-enum-told
 enum-told c = search needs
 
--- src/query.rt:91:17
 elastic-key-requires : tie.Need-elastic-key-requires
 elastic-key-requires c κs = search needs
 
--- src/query.rt:96:23
 sub-t14 : tie.Need-sub-t14
-sub-t14 c = ?
+sub-t14 c = valid-levels (gate-valid _ _ _ _ (sym (c .before .before .before .before .before .before .state-gate .ensures) ∙ c .before .before .before .before .enum-told .given .1))
 
--- src/query.rt:100:13
 find-requires : tie.Need-find-requires
-find-requires c κs = ?
+find-requires c κs = valid-queried (gate-valid _ _ _ _ (sym (c .before .before .before .before .before .before .state-gate .ensures) ∙ c .before .before .before .before .enum-told .given .1))
 
--- src/query.rt:100:13
 returns-2 : tie.Need-returns-2
-returns-2 c = ?
+returns-2 c =
+    let v = gate-valid _ _ _ _ (sym (c .before .before .before .before .before .before .before .state-gate .ensures) ∙ c .before .before .before .before .before .enum-told .given .1) in
+    let l = valid-levels v in
+    query-walk _ _ _ _ _ _ _ _ (sym (c .before .before .before .before .before .before .before .state-gate .ensures) ∙ c .before .before .before .before .before .enum-told .given .1) (c .before .before .elastic-key .ensures) (omega (arith, l)) (c .find .ensures)
 
 pub query-spec : {M : Type 1} → statement M
 query-spec =

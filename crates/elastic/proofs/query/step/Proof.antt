@@ -1,37 +1,32 @@
+-- `elastic::query::step` meets its contract. Assumes nothing.
+use native.Mathlib.Omega.{arith}
+use Rattle.probe.specs.TreeLaws.{node-j, node-past, node-size, next-down, next-leaf, ends-start}
 use borrow.Author.Needs.{needs}
 use Rattle.elastic.proofs.query.step.Statement.{statement}
 use Rattle.elastic.proofs.query.step.Tie as tie
-use Rattle.elastic.proofs.query.step.Reads as reads
-use Rattle.elastic.proofs.query.step.Lts as lts
-use Rattle.elastic.proofs.query.climb.Reads as climb-reads
 
--- src/query.rt:256:20
 mul-t6 : tie.Need-mul-t6
 mul-t6 c = search needs
 
--- src/query.rt:256:16
 add-t7 : tie.Need-add-t7
 add-t7 c = search needs
 
--- src/query.rt:257:16
 mul-t8 : tie.Need-mul-t8
-mul-t8 c = ?
+mul-t8 c = omega (arith, node-j _ _ _ (c .before .pre .0))
 
--- src/query.rt:255:9
 returns : tie.Need-returns
-returns c = ?
+returns c = (next-down _ _ _ (c .before .pre .0) (c .if1 .taken), omega arith)
 
--- src/query.rt:261:11
 add-climb : tie.Need-add-climb
 add-climb c = search needs
 
--- src/query.rt:261:5
 climb-requires : tie.Need-climb-requires
-climb-requires c κs = ?
+climb-requires c κs = (ends-start _ _ _ (c .before .pre .0), omega (arith, node-past _ _ _ (c .before .pre .0)))
 
--- src/query.rt:250:1
 returns-2 : tie.Need-returns-2
-returns-2 c = ?
+returns-2 c =
+    let n = c .climb .ensures in
+    (next-leaf _ _ _ (c .before .before .pre .0) (omega arith) n, omega (arith, n .on, node-size _ _ _ (c .before .before .pre .0)))
 
 pub step-spec : {M : Type 1} → statement M
 step-spec = tie.close (tie.spec mul-t6 add-t7 mul-t8 returns add-climb climb-requires returns-2)
