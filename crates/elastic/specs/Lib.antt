@@ -7,3 +7,5 @@ pub mod Reading
 pub mod ReadingLaws
 pub mod State
 pub mod StateLaws
+pub mod Table
+pub mod TableLaws

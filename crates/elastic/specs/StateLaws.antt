@@ -20,7 +20,7 @@ use Rattle.geometry.specs.ElasticLaws.{plan-facts}
 use Rattle.elastic.specs.declared.state.Limits.{Limits}
 use Rattle.elastic.specs.declared.state.State.{State}
 use Rattle.elastic.specs.declared.state.Opened.the-variants as opening
-use Rattle.elastic.specs.State.{capFits, factorFits, limitsFit, buffersFit, countsWithin, countsFit, stateFits, demand, settingGate, openGate, gateOf, opened, freshOf, openBy, openOf, LimitsFacts, Valid}
+use Rattle.elastic.specs.State.{capFits, factorFits, limitsFit, buffersFit, countsWithin, countsFit, stateFits, demand, settingGate, openGate, gateOf, OpenDone, opened, freshOf, openBy, openOf, LimitsFacts, Valid}
 
 -- ---- tests one after the other
 
@@ -161,6 +161,26 @@ module _ (n e seed : ℕ) (limits : Limits) (cs ws fs : List ℕ) where
       → opened (opening.Open (record { n = n; e = e; seed = seed; limits = limits; plan = record { levels = levels; maximum = most }; count = 0 })) cs' ws' fs' ≡ openOf n e seed limits cs ws fs
   unfolding openOf openBy
   open-fresh levels most cs' ws' fs' h a b f g k = rw (h, a, b, f, g, k)
+
+-- what an opening that was answered says
+pub open-facts : (n e seed : ℕ) (limits : Limits) (cs ws fs : List ℕ) (st : State) (cs' ws' fs' : List ℕ) → openOf n e seed limits cs ws fs ≡ opened (opening.Open st) cs' ws' fs'
+    → Configured n e × (freshOf n e seed limits ≡ st) × (replicate (length cs) 0 ≡ cs') × (replicate n 0 ≡ ws') × (replicate n 0 ≡ fs')
+unfolding openOf openBy openGate settingGate
+open-facts n e seed limits cs ws fs st cs' ws' fs' h = go (openGate n e limits (length ws) (length fs)) refl h
+  where
+    go : (g : Gated) → openGate n e limits (length ws) (length fs) ≡ g → openBy g n e seed limits cs ws fs ≡ opened (opening.Open st) cs' ws' fs'
+        → Configured n e × (freshOf n e seed limits ≡ st) × (replicate (length cs) 0 ≡ cs') × (replicate n 0 ≡ ws') × (replicate n 0 ≡ fs')
+    go (Refused g) q k = let a = ap (λ (d : OpenDone). d .answer) k in let z : _≡_ {A = ℕ} 0 1 = cc in absurd (omega arith)
+    go Passed q k =
+        let f = demand-facts _ _ _ q in
+        let b = demand-facts _ _ _ (f .0) in
+        let size = both-yes (eqb (length ws) n) (eqb (length fs) n) (f .1) in
+        let lw = eqb-true (length ws) n (size .0) in
+        let lf = eqb-true (length fs) n (size .1) in
+        let a : opening.Open (freshOf n e seed limits) ≡ opening.Open st = ap (λ (d : OpenDone). d .answer) k in
+        let w : replicate (length ws) 0 ≡ ws' = ap (λ (d : OpenDone). d .words) k in
+        let v : replicate (length fs) 0 ≡ fs' = ap (λ (d : OpenDone). d .flags) k in
+        (config-gate-facts n e (b .0), cc, ap (λ (d : OpenDone). d .counts) k, rw lw at w, rw lf at v)
 
 -- ---- what the gate says once passed
 
