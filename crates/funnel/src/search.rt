@@ -17,8 +17,8 @@ use probe::counter::funnel_base;
 use probe::range::Drawn;
 use probe::range::funnel_draw;
 use probe::word::FunnelKey;
-use refusal::RangeRefusal;
 use probe::word::funnel_key;
+use refusal::RangeRefusal;
 use words::place::GlobalSlot;
 use words::place::Place;
 

@@ -1,3 +1,4 @@
+-- `funnel::search::search_levels` meets its contract. The invariant: the levels that are left give what all give, `start` is where the next begins, its bucket is drawn, and no level takes more than 54 probes. Assumes nothing.
 use Prim.Native.Nat.{_-_, _≤_, _*_}
 use mathlib.Core.Path.{_≡_, sym, _∙_, ap}
 use native.Mathlib.Omega.{arith}
@@ -12,53 +13,43 @@ use Rattle.funnel.specs.Valid.{DrawnAhead}
 use Rattle.funnel.proofs.Stays.{stays}
 use Rattle.funnel.proofs.search.search_levels.Statement.{statement}
 use Rattle.funnel.proofs.search.search_levels.Tie as tie
-use Rattle.funnel.proofs.search.search_levels.Reads as reads
-use Rattle.funnel.proofs.search.search_levels.Lts as lts
-use Rattle.funnel.proofs.scan.scan.Reads as scan-reads
-use Rattle.funnel.proofs.search.draw_level.Reads as draw-level-reads
 
 abbrev Inv-loop : tie.InvT-loop
-Inv-loop table counts words flags identity key alpha beta level₀ start₀ probes₀ drawn₀ level start probes drawn = (level ≤ alpha) × (start ≡ levelStart (table .plan) counts level) × (probes ≤ level * 54) × LevelsLeft (table .plan) counts words flags (table .seed) (table .«word_cap») identity level probes × DrawnAhead key counts alpha (table .«word_cap») level drawn
+Inv-loop table counts words flags identity key alpha beta level₀ start₀ probes₀ drawn₀ level start probes drawn =
+    (level ≤ alpha) × (start ≡ levelStart (table .plan) counts level) × (probes ≤ level * 54)
+    × LevelsLeft (table .plan) counts words flags (table .seed) (table .«word_cap») identity level probes
+    × DrawnAhead key counts alpha (table .«word_cap») level drawn
 
 abbrev μ-loop : tie.MeasureT-loop
 μ-loop table counts words flags identity key alpha beta level₀ start₀ probes₀ drawn₀ level start probes drawn = alpha - level
 
--- src/search.rt:67:9
 draw-level-requires : tie.Need-draw-level-requires Inv-loop μ-loop
 draw-level-requires c κs = valid-drawable (c .before .before .pre .0)
 
--- src/search.rt:68:5
 loop-holds : tie.Need-loop-holds Inv-loop μ-loop
 loop-holds c = (omega arith, level-none (c .before .before .before .args .table .plan) (now (c .before .before .before .args .counts)), omega arith, levels-none _ _ _ _ _ _ _, c .draw-level .ensures)
 
--- src/search.rt:70:28
 enum-known-drawn : tie.Need-enum-known-drawn Inv-loop μ-loop
 enum-known-drawn c = search needs
 
--- src/search.rt:71:17
 returns : tie.Need-returns Inv-loop μ-loop
 returns c = levels-refused _ _ _ _ _ _ _ (c .before .before .before .before .loop .inv .3) _ (c .before .before .before .loop-test .taken) (drew (c .before .before .before .before .before .before .before .before .pre .1) _ _ _ _ _ _ (c .before .before .before .before .loop .inv .4 .ahead (c .before .before .before .loop-test .taken)) (c .before .drawn .given .1))
 
--- src/search.rt:73:28
 enum-known-drawn-2 : tie.Need-enum-known-drawn-2 Inv-loop μ-loop
 enum-known-drawn-2 c = search needs
 
--- src/search.rt:75:60
 add-draw-level : tie.Need-add-draw-level Inv-loop μ-loop
 add-draw-level c = let f = plan-facts (c .before .before .before .before .before .before .before .before .pre .0 .planned) in let l = c .before .before .before .loop-test .taken in omega arith
 
--- src/search.rt:75:21
 draw-level-requires-2 : tie.Need-draw-level-requires-2 Inv-loop μ-loop
 draw-level-requires-2 c κs = valid-drawable (c .before .before .before .before .before .before .before .before .pre .0)
 
--- src/search.rt:76:36
 mul-from : tie.Need-mul-from Inv-loop μ-loop
 mul-from c = let d = drew-below _ _ _ _ _ (level-room (c .before .before .before .before .before .before .before .before .before .pre .0 .planned) _ (c .before .before .before .before .loop-test .taken) .some) (c .before .before .before .before .before .loop .inv .4 .ahead (c .before .before .before .before .loop-test .taken)) (c .before .before .drawn2 .given .1) in
     let b = bucket-room (c .before .before .before .before .before .before .before .before .before .pre .0 .planned) _ _ (c .before .before .before .before .loop-test .taken) d in
     let f = plan-facts (c .before .before .before .before .before .before .before .before .before .pre .0 .planned) in
     omega arith
 
--- src/search.rt:76:28
 add-from : tie.Need-add-from Inv-loop μ-loop
 add-from c = let d = drew-below _ _ _ _ _ (level-room (c .before .before .before .before .before .before .before .before .before .pre .0 .planned) _ (c .before .before .before .before .loop-test .taken) .some) (c .before .before .before .before .before .loop .inv .4 .ahead (c .before .before .before .before .loop-test .taken)) (c .before .before .drawn2 .given .1) in
     let b = bucket-room (c .before .before .before .before .before .before .before .before .before .pre .0 .planned) _ _ (c .before .before .before .before .loop-test .taken) d in
@@ -66,7 +57,6 @@ add-from c = let d = drew-below _ _ _ _ _ (level-room (c .before .before .before
     let s = c .before .before .before .before .before .loop .inv .1 in
     omega arith
 
--- src/search.rt:77:21
 scan-requires : tie.Need-scan-requires Inv-loop μ-loop
 scan-requires c κs = let d = drew-below _ _ _ _ _ (level-room (c .before .before .before .before .before .before .before .before .before .pre .0 .planned) _ (c .before .before .before .before .loop-test .taken) .some) (c .before .before .before .before .before .loop .inv .4 .ahead (c .before .before .before .before .loop-test .taken)) (c .before .before .drawn2 .given .1) in
     let b = bucket-room (c .before .before .before .before .before .before .before .before .before .pre .0 .planned) _ _ (c .before .before .before .before .loop-test .taken) d in
@@ -76,44 +66,35 @@ scan-requires c κs = let d = drew-below _ _ _ _ _ (level-room (c .before .befor
     let t = c .before .before .before .before .loop-test .taken in
     omega arith
 
--- src/search.rt:78:44
 enum-known-found : tie.Need-enum-known-found Inv-loop μ-loop
 enum-known-found c = search needs
 
--- src/search.rt:79:21
 returns-2 : tie.Need-returns-2 Inv-loop μ-loop
 returns-2 c = stays _ _ _ _ _ (c .match2 .keys2) ∙ sym (levels-found _ _ _ _ _ _ _ (c .before .before .before .before .before .before .before .loop .inv .3) _ _ _ _ (c .before .before .before .before .before .before .loop-test .taken) (c .before .before .before .before .before .before .before .loop .inv .1) (drew (c .before .before .before .before .before .before .before .before .before .before .before .pre .1) _ _ _ _ _ _ (c .before .before .before .before .before .before .before .loop .inv .4 .ahead (c .before .before .before .before .before .before .loop-test .taken)) (c .before .before .before .before .drawn2 .given .1)) (c .before .scan .ensures))
 
--- src/search.rt:85:18
 mul-start : tie.Need-mul-start Inv-loop μ-loop
 mul-start c = let f = plan-facts (c .before .before .before .before .before .before .before .before .before .before .before .before .before .pre .0 .planned) in let l = c .before .before .before .before .before .before .before .before .loop-test .taken in omega arith
 
--- src/search.rt:85:18
 element-copy-out-start : tie.Need-element-copy-out-start Inv-loop μ-loop
 element-copy-out-start c = let f = plan-facts (c .before .before .before .before .before .before .before .before .before .before .before .before .before .pre .0 .planned) in let l = c .before .before .before .before .before .before .before .before .loop-test .taken in omega arith
 
--- src/search.rt:85:18
 mul-start-2 : tie.Need-mul-start-2 Inv-loop μ-loop
 mul-start-2 c = let r = level-room (c .before .before .before .before .before .before .before .before .before .before .before .before .before .before .pre .0 .planned) _ (c .before .before .before .before .before .before .before .before .before .loop-test .taken) in
     let f = plan-facts (c .before .before .before .before .before .before .before .before .before .before .before .before .before .before .pre .0 .planned) in
     omega arith
 
--- src/search.rt:85:9
 add-start : tie.Need-add-start Inv-loop μ-loop
 add-start c = let r = level-room (c .before .before .before .before .before .before .before .before .before .before .before .before .before .before .pre .0 .planned) _ (c .before .before .before .before .before .before .before .before .before .loop-test .taken) in
     let f = plan-facts (c .before .before .before .before .before .before .before .before .before .before .before .before .before .before .pre .0 .planned) in
     let s = c .before .before .before .before .before .before .before .before .before .before .loop .inv .1 in
     omega arith
 
--- src/search.rt:86:9
 add-level : tie.Need-add-level Inv-loop μ-loop
 add-level c = let f = plan-facts (c .before .before .before .before .before .before .before .before .before .before .before .before .before .before .pre .0 .planned) in let l = c .before .before .before .before .before .before .before .before .before .loop-test .taken in omega arith
 
--- src/search.rt:68:5
 loop-less : tie.Need-loop-less Inv-loop μ-loop
 loop-less c = let l = c .before .before .before .before .before .before .before .before .before .loop-test .taken in omega arith
 
--- src/search.rt:68:5
 loop-again : tie.Need-loop-again Inv-loop μ-loop
 unfolding resume
 loop-again c = let r = level-room (c .before .before .before .before .before .before .before .before .before .before .before .before .before .before .pre .0 .planned) _ (c .before .before .before .before .before .before .before .before .before .loop-test .taken) in
@@ -123,7 +104,6 @@ loop-again c = let r = level-room (c .before .before .before .before .before .be
     let t = c .before .before .before .before .before .before .before .before .before .loop-test .taken in
     (omega arith, omega arith, omega arith, record { left = levels-found _ _ _ _ _ _ _ (c .before .before .before .before .before .before .before .before .before .before .loop .inv .3) _ _ _ _ (c .before .before .before .before .before .before .before .before .before .loop-test .taken) (c .before .before .before .before .before .before .before .before .before .before .loop .inv .1) (drew (c .before .before .before .before .before .before .before .before .before .before .before .before .before .before .pre .1) _ _ _ _ _ _ (c .before .before .before .before .before .before .before .before .before .before .loop .inv .4 .ahead (c .before .before .before .before .before .before .before .before .before .loop-test .taken)) (c .before .before .before .before .before .before .before .drawn2 .given .1)) (c .before .before .before .before .scan .ensures) ∙ ap (resume _ _ _ _) (c .before .before .found .given .1) }, c .before .before .before .before .before .draw-level2 .ensures)
 
--- src/search.rt:51:1
 returns-3 : tie.Need-returns-3 Inv-loop μ-loop
 returns-3 c = levels-end _ _ _ _ _ _ _ (c .before .loop .inv .3) (c .loop-test .left)
 
