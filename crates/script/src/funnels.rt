@@ -3,9 +3,10 @@ use crate::digest::bulk_identity;
 use crate::digest::count_refusal;
 use crate::digest::put_digest;
 use crate::digest::put_refusals;
+use crate::digest::word_buffer;
 use crate::operation::Operation;
 use crate::operation::are_operations;
-use crate::operation::operation;
+use crate::operation::parse;
 use crate::print;
 use funnel::calls::insert;
 use funnel::calls::open;
@@ -16,7 +17,6 @@ use funnel::table::Insertion;
 use funnel::table::OpenAnswer;
 use funnel::table::Search;
 use funnel::table::SearchAnswer;
-use funnel::table::Step;
 use geometry::config::Gated;
 use geometry::funnel::funnel_gate;
 use refusal::Name;
@@ -70,7 +70,10 @@ pub fn run(line: &[u8], args: usize, out: &mut [u8], at: usize) -> usize {
         return print::unknown(out, at);
     }
     let e = a[1];
-    if row.count != 4 || 4294967295 < e {
+    if row.count != 4 {
+        return print::unknown(out, at);
+    }
+    if 4294967295 < e {
         return print::unknown(out, at);
     }
     if !are_operations(line, row.next, a[0], b's') {
@@ -84,10 +87,26 @@ pub fn run(line: &[u8], args: usize, out: &mut [u8], at: usize) -> usize {
 }
 
 fn run_table(line: &[u8], from: usize, a: [u64; 4], out: &mut [u8], at: usize) -> usize {
-    let mut words = [0u64; 65536];
-    let mut flags = [0u8; 65536];
+    let mut words = word_buffer();
+    let mut flags = io::large_buffer();
+    run_cut(line, from, a, &mut words, &mut flags, out, at)
+}
+
+// The run in the first n slots of large buffers.
+fn run_cut(
+    line: &[u8],
+    from: usize,
+    a: [u64; 4],
+    words: &mut [u64],
+    flags: &mut [u8],
+    out: &mut [u8],
+    at: usize,
+) -> usize {
     let n = a[0] as usize;
-    if 65536 < n {
+    if words.len() < n {
+        return at;
+    }
+    if flags.len() < n {
         return at;
     }
     run_in(line, from, a, &mut words[..n], &mut flags[..n], out, at)
@@ -109,13 +128,28 @@ fn run_in(
     }
     match open(a[0], e as u32, a[2], a[3], &mut counts, words, flags) {
         OpenAnswer::Gate(gate) => print::gate(gate, out, at),
-        OpenAnswer::Table(table) => {
-            let end = operations(line, from, table, &counts, words, flags, out, at);
-            let mut to = put(out, end.at, b"END");
-            to = put_field(out, to, end.table.count);
-            put_digest(words, flags, out, to)
-        }
+        OpenAnswer::Table(table) => run_opened(line, from, table, &counts, words, flags, out, at),
     }
+}
+
+fn run_opened(
+    line: &[u8],
+    from: usize,
+    table: FunnelTable,
+    counts: &[u64; 118],
+    words: &mut [u64],
+    flags: &mut [u8],
+    out: &mut [u8],
+    at: usize,
+) -> usize {
+    let end = operations(line, from, table, counts, words, flags, out, at);
+    put_end(end, words, flags, out)
+}
+
+fn put_end(end: Standing, words: &[u64], flags: &[u8], out: &mut [u8]) -> usize {
+    let mut to = put(out, end.at, b"END");
+    to = put_field(out, to, end.table.count);
+    put_digest(words, flags, out, to)
 }
 
 // All operations from a field on, one after the other.
@@ -131,11 +165,16 @@ fn operations(
 ) -> Standing {
     let mut now = Standing { table, at };
     let mut next = from;
-    while next <= line.len() {
+    // A line has no more fields than bytes, since none is empty.
+    let mut turns = line.len();
+    while 0 < turns {
+        if line.len() < next {
+            return now;
+        }
         let end = field_end(line, next);
-        let op = operation(line, next, end);
-        now = apply(op, now, counts, words, flags, out);
+        now = apply(parse(line, next, end), now, counts, words, flags, out);
         next = field_after(line, end);
+        turns -= 1;
     }
     now
 }
@@ -160,10 +199,14 @@ fn apply(
                         at: put(out, to, b"; "),
                     }
                 }
-                InsertAnswer::Done(step) => Standing {
-                    table: step.table,
-                    at: put_insertion(step.answer, out, at),
-                },
+                InsertAnswer::Done(step) => {
+                    let answer = step.answer;
+                    let next = step.table;
+                    Standing {
+                        table: next,
+                        at: put_insertion(answer, out, at),
+                    }
+                }
             }
         }
         Operation::Ask(identity) => {
@@ -256,7 +299,13 @@ pub fn bulk(line: &[u8], args: usize, out: &mut [u8], at: usize) -> usize {
         return print::unknown(out, at);
     }
     let e = a[1];
-    if row.count != 6 || row.next <= line.len() || 4294967295 < e {
+    if row.count != 6 {
+        return print::unknown(out, at);
+    }
+    if row.next <= line.len() {
+        return print::unknown(out, at);
+    }
+    if 4294967295 < e {
         return print::unknown(out, at);
     }
     match size_of(a[0], e as u32, a[3]) {
@@ -267,10 +316,18 @@ pub fn bulk(line: &[u8], args: usize, out: &mut [u8], at: usize) -> usize {
 }
 
 fn bulk_table(a: [u64; 6], out: &mut [u8], at: usize) -> usize {
-    let mut words = [0u64; 65536];
-    let mut flags = [0u8; 65536];
+    let mut words = word_buffer();
+    let mut flags = io::large_buffer();
+    bulk_cut(a, &mut words, &mut flags, out, at)
+}
+
+// The run in the first n slots of large buffers.
+fn bulk_cut(a: [u64; 6], words: &mut [u64], flags: &mut [u8], out: &mut [u8], at: usize) -> usize {
     let n = a[0] as usize;
-    if 65536 < n {
+    if words.len() < n {
+        return at;
+    }
+    if flags.len() < n {
         return at;
     }
     bulk_in(a, &mut words[..n], &mut flags[..n], out, at)
@@ -284,19 +341,41 @@ fn bulk_in(a: [u64; 6], words: &mut [u64], flags: &mut [u8], out: &mut [u8], at:
     }
     match open(a[0], e as u32, a[2], a[3], &mut counts, words, flags) {
         OpenAnswer::Gate(gate) => print::gate(gate, out, at),
-        OpenAnswer::Table(table) => {
-            let mut times = [0u64; 32];
-            let end = insert_all(a[4], a[5], table, &counts, words, flags, &mut times);
-            let mut to = put_decimal(out, at, end.table.count);
-            to = put_refusals(&times, out, to);
-            to = put_field(out, to, end.probes);
-            put_digest(words, flags, out, to)
-        }
+        OpenAnswer::Table(table) => bulk_opened(a[4], a[5], table, &counts, words, flags, out, at),
     }
 }
 
+fn bulk_opened(
+    start: u64,
+    many: u64,
+    table: FunnelTable,
+    counts: &[u64; 118],
+    words: &mut [u64],
+    flags: &mut [u8],
+    out: &mut [u8],
+    at: usize,
+) -> usize {
+    let mut times = [0u64; 32];
+    let end = insert_all(start, many, table, counts, words, flags, &mut times);
+    put_bulk(end, &times, words, flags, out, at)
+}
+
+fn put_bulk(
+    end: Tallied,
+    times: &[u64; 32],
+    words: &[u64],
+    flags: &[u8],
+    out: &mut [u8],
+    at: usize,
+) -> usize {
+    let mut to = put_decimal(out, at, end.table.count);
+    to = put_refusals(times, out, to);
+    to = put_field(out, to, end.probes);
+    put_digest(words, flags, out, to)
+}
+
 // A table, and the sum of the probes of all insertions.
-struct Bulk {
+struct Tallied {
     table: FunnelTable,
     probes: u64,
 }
@@ -309,8 +388,8 @@ fn insert_all(
     words: &mut [u64],
     flags: &mut [u8],
     times: &mut [u64; 32],
-) -> Bulk {
-    let mut now = Bulk { table, probes: 0 };
+) -> Tallied {
+    let mut now = Tallied { table, probes: 0 };
     let mut k = 0;
     while k < many {
         k += 1;
@@ -321,28 +400,32 @@ fn insert_all(
 
 fn insert_one(
     identity: u64,
-    now: Bulk,
+    now: Tallied,
     counts: &[u64; 118],
     words: &mut [u64],
     flags: &mut [u8],
     times: &mut [u64; 32],
-) -> Bulk {
+) -> Tallied {
     let table = now.table;
     match insert(table, counts, words, flags, identity) {
         InsertAnswer::Gate(gate) => {
             count_refusal(times, refusal::number(refusal::gate_name(gate)));
             now
         }
-        InsertAnswer::Done(step) => Bulk {
-            table: step.table,
-            probes: std::num::wrapping_add_u64(now.probes, tally(step, times)),
-        },
+        InsertAnswer::Done(step) => {
+            let next = step.table;
+            let answer = step.answer;
+            let probes = std::num::wrapping_add_u64(now.probes, tally(answer, times));
+            Tallied {
+                table: next,
+                probes,
+            }
+        }
     }
 }
 
 // Counts a refusal, and answers the probes of an insertion.
-fn tally(step: Step, times: &mut [u64; 32]) -> u64 {
-    let answer = step.answer;
+fn tally(answer: Insertion, times: &mut [u64; 32]) -> u64 {
     match answer {
         Insertion::Inserted { probes, place: _ } => probes,
         Insertion::Duplicate { probes, place: _ } => {

@@ -35,7 +35,7 @@ pub fn find_byte(line: &[u8], from: usize, to: usize, b: u8) -> usize {
 }
 
 // LEFT=RIGHT
-pub fn split(line: &[u8], from: usize, to: usize) -> Split {
+pub fn split_pair(line: &[u8], from: usize, to: usize) -> Split {
     let at = find_byte(line, from, to, b'=');
     if to <= at {
         return Split::Unknown;
@@ -50,7 +50,7 @@ pub fn split(line: &[u8], from: usize, to: usize) -> Split {
 }
 
 // The operation in a field.
-pub fn operation(line: &[u8], from: usize, to: usize) -> Operation {
+pub fn parse(line: &[u8], from: usize, to: usize) -> Operation {
     if to <= from {
         return Operation::Unknown;
     }
@@ -59,7 +59,7 @@ pub fn operation(line: &[u8], from: usize, to: usize) -> Operation {
     }
     let letter = line[from];
     if letter == b'o' {
-        return match split(line, from + 1, to) {
+        return match split_pair(line, from + 1, to) {
             Split::Unknown => Operation::Unknown,
             Split::Into { left, right } => Operation::Occupy {
                 slot: left,
@@ -68,7 +68,7 @@ pub fn operation(line: &[u8], from: usize, to: usize) -> Operation {
         };
     }
     if letter == b'c' {
-        return match split(line, from + 1, to) {
+        return match split_pair(line, from + 1, to) {
             Split::Unknown => Operation::Unknown,
             Split::Into { left, right } => Operation::Level {
                 level: left,
@@ -100,12 +100,18 @@ fn one_number(letter: u8, value: OneWord) -> Operation {
 // Whether every field from one on is an operation of a table of n slots, whose question begins with `question`.
 pub fn are_operations(line: &[u8], from: usize, n: u64, question: u8) -> bool {
     let mut next = from;
-    while next <= line.len() {
+    // A line has no more fields than bytes, since none is empty.
+    let mut turns = line.len();
+    while 0 < turns {
+        if line.len() < next {
+            return true;
+        }
         let end = field_end(line, next);
         if !is_operation(line, next, end, n, question) {
             return false;
         }
         next = field_after(line, end);
+        turns -= 1;
     }
     true
 }
@@ -115,7 +121,7 @@ fn is_operation(line: &[u8], from: usize, to: usize, n: u64, question: u8) -> bo
         return false;
     }
     let letter = line[from];
-    match operation(line, from, to) {
+    match parse(line, from, to) {
         Operation::Unknown => false,
         Operation::Insert(_) => true,
         Operation::Count(_) => true,

@@ -1,4 +1,6 @@
 // What is common to runs: the digest of a table, the identities of a bulk run, and how often each refusal came.
+ghost use mathlib.Core.Path.{_≡_};
+ghost use lib.ListN.{length};
 use probe::mix::mix64;
 use text::out::put_byte;
 use text::out::put_decimal;
@@ -7,10 +9,18 @@ use words::product::multiply;
 
 // FNV-1a, 64 bits.
 const BASIS: u64 = 0xcbf29ce484222325;
+
 const PRIME: u64 = 0x100000001b3;
 
 // The increment of splitmix64.
 const GOLDEN: u64 = 0x9E3779B97F4A7C15;
+
+// 65,536 zeros, the words of a table. The `ensures` gives the length, which lending the array as a slice needs.
+pub fn word_buffer() -> [u64; 65536]
+    ensures { λ r. ⌜ 65536 ≡ length r ⌝ }
+{
+    [0; 65536]
+}
 
 fn digest_byte(hash: u64, byte: u64) -> u64 {
     multiply(hash ^ byte % 256, PRIME)
@@ -78,28 +88,30 @@ pub fn put_refusals(times: &[u64; 32], out: &mut [u8], at: usize) -> usize {
 
 fn put_times(times: &[u64], out: &mut [u8], at: usize) -> usize {
     let mut to = put_byte(out, at, b' ');
-    let mut some = false;
+    let mut before = 0;
     let mut number = 0;
     while number < times.len() {
         let many = times[number];
-        if many != 0 {
-            to = put_time(some, number as u64, many, out, to);
-            some = true;
-        }
+        to = put_time(before, number as u64, many, out, to);
+        before = std::num::wrapping_add_u64(before, many);
         number += 1;
     }
-    if some {
-        return to;
+    if before == 0 {
+        return put_byte(out, to, b'-');
     }
-    put_byte(out, to, b'-')
+    to
 }
 
-fn put_time(after: bool, number: u64, many: u64, out: &mut [u8], at: usize) -> usize {
-    if after {
-        let to = put_byte(out, at, b',');
-        return put_pair(number, many, out, to);
+// A pair, with a comma where some came before it; nothing for no refusal.
+fn put_time(before: u64, number: u64, many: u64, out: &mut [u8], at: usize) -> usize {
+    if many == 0 {
+        return at;
     }
-    put_pair(number, many, out, at)
+    if before == 0 {
+        return put_pair(number, many, out, at);
+    }
+    let to = put_byte(out, at, b',');
+    put_pair(number, many, out, to)
 }
 
 fn put_pair(number: u64, many: u64, out: &mut [u8], at: usize) -> usize {

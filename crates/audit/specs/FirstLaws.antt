@@ -1,0 +1,95 @@
+-- Laws of the smallest slot that passes a test. Assumes nothing.
+use mathlib.Core.Bool.{Bool, true, false}
+use mathlib.Core.Logic.{⊎-elim}
+use mathlib.Core.Path.{_≡_, refl, ap, sym, _∙_}
+use Prim.Native.Nat.{ℕ, zero, suc, _+_, _-_, _≤_, _<_}
+use native.Mathlib.Nat.{eq-or-lt-of-le}
+use native.Mathlib.Omega.{arith}
+use Rattle.words.specs.Pick.{pick}
+use Rattle.audit.specs.declared.slots.First.{First}
+use Rattle.audit.specs.declared.slots.First.the-variants.{At, Nothing}
+use Rattle.audit.specs.Greedy.{firstFrom}
+
+-- ---- what the answer says
+
+-- in the range, it passes, and none before it does
+pub record Found (test : ℕ → Bool) (from k s : ℕ) : Type 0 where
+  pub least : from ≤ s
+  pub below : s < from + k
+  pub holds : test s ≡ true
+  pub before : (t : ℕ) → from ≤ t → t < s → test t ≡ false
+
+pub first-found : (test : ℕ → Bool) (from k s : ℕ) → firstFrom test from k ≡ At s → Found test from k s
+unfolding firstFrom
+first-found test from zero s e = let z : _≡_ {A = ℕ} 0 1 = cc in absurd (omega arith)
+first-found test from (suc k) s e = go (test from) refl e (first-found test (suc from) k s)
+  where
+    go : (x : Bool) → test from ≡ x → pick x (At from) (firstFrom test (suc from) k) ≡ At s → (firstFrom test (suc from) k ≡ At s → Found test (suc from) k s) → Found test from (suc k) s
+    go true q e ih =
+        let m : from ≡ s = cc in
+        record { least = omega arith; below = omega arith; holds = rw m at q; before = λ t l h. absurd (omega arith) }
+    go false q e ih =
+        let r = ih e in
+        record {
+          least = omega arith;
+          below = omega arith;
+          holds = r .holds;
+          before = λ t l h. ⊎-elim (λ m. rw m at q) (λ lt. r .before t lt h) (eq-or-lt-of-le l);
+        }
+
+-- none in the range passes
+pub first-none : (test : ℕ → Bool) (from k : ℕ) → firstFrom test from k ≡ Nothing → (s : ℕ) → from ≤ s → s < from + k → test s ≡ false
+unfolding firstFrom
+first-none test from zero e s h l = absurd (omega arith)
+first-none test from (suc k) e s h l = go (test from) refl e (first-none test (suc from) k)
+  where
+    go : (x : Bool) → test from ≡ x → pick x (At from) (firstFrom test (suc from) k) ≡ Nothing
+        → (firstFrom test (suc from) k ≡ Nothing → (s : ℕ) → suc from ≤ s → s < suc from + k → test s ≡ false) → test s ≡ false
+    go true q e ih = let z : _≡_ {A = ℕ} 0 1 = cc in absurd (omega arith)
+    go false q e ih = ⊎-elim (λ m. rw m at q) (λ lt. ih e s lt (omega arith)) (eq-or-lt-of-le h)
+
+-- ---- and the other way round
+
+first-suc : (test : ℕ → Bool) (from k : ℕ) → firstFrom test from (suc k) ≡ pick (test from) (At from) (firstFrom test (suc from) k)
+unfolding firstFrom
+first-suc test from k = refl
+
+pub first-at : (test : ℕ → Bool) (from k s : ℕ) → from ≤ s → s < from + k → test s ≡ true → ((t : ℕ) → from ≤ t → t < s → test t ≡ false) → firstFrom test from k ≡ At s
+first-at test from zero s l h e before = absurd (omega arith)
+first-at test from (suc k) s l h e before =
+    first-suc test from k ∙ ⊎-elim (λ m. let q : test from ≡ true = rw m e in rw q (ap At m)) (λ lt. rw (before from (omega arith) lt) (first-at test (suc from) k s lt (omega arith) e (λ t u. before t (omega arith)))) (eq-or-lt-of-le l)
+
+pub first-all : (test : ℕ → Bool) (from k : ℕ) → ((t : ℕ) → from ≤ t → t < from + k → test t ≡ false) → firstFrom test from k ≡ Nothing
+unfolding firstFrom
+first-all test from zero h = refl
+first-all test from (suc k) h = rw (h from (omega arith) (omega arith)) (first-all test (suc from) k (λ t u l. h t (omega arith) (omega arith)))
+
+-- ---- as a loop that counts up makes it
+
+pub record Passed (test : ℕ → Bool) (from n i : ℕ) : Type 0 where
+  pub left : firstFrom test from (n - from) ≡ firstFrom test i (n - i)
+
+pub passed-none : (test : ℕ → Bool) (from n : ℕ) → Passed test from n from
+passed-none test from n = record { left = refl }
+
+first-step : (test : ℕ → Bool) (n i : ℕ) → i < n → firstFrom test i (n - i) ≡ pick (test i) (At i) (firstFrom test (i + 1) (n - (i + 1)))
+unfolding firstFrom
+first-step test n i h =
+    let e : n - i ≡ suc (n - (i + 1)) = omega arith in
+    let e2 : suc i ≡ i + 1 = omega arith in
+    rw (e, e2)
+
+module _ {test : ℕ → Bool} {from n i : ℕ} (p : Passed test from n i) where
+  pub passed-at : i < n → test i ≡ true → At i ≡ firstFrom test from (n - from)
+  passed-at h e = sym (p .left ∙ rw (first-step test n i h, e))
+
+  pub passed-more : i < n → test i ≡ false → Passed test from n (i + 1)
+  passed-more h e = record { left = p .left ∙ rw (first-step test n i h, e) }
+
+  pub passed-end : n ≤ i → Nothing ≡ firstFrom test from (n - from)
+  unfolding firstFrom
+  passed-end h = sym (p .left ∙ (let e : n - i ≡ 0 = omega arith in rw e))
+
+-- from slot 0 on
+pub from-zero : (test : ℕ → Bool) (n : ℕ) → firstFrom test 0 (n - 0) ≡ firstFrom test 0 n
+from-zero test n = let e : n - 0 ≡ n = omega arith in rw e

@@ -1,0 +1,79 @@
+// Which slots are ready: an insertion of their identity into the placed part would be answered as inserted at that very slot. The
+// placed part is the table with the marks for flags, so this is the search of the funnel.
+ghost use mathlib.Core.Path.{_≡_};
+ghost use Prim.Native.Nat.{_-_, _≤_, _<_};
+ghost use lib.ListN.{length};
+ghost use Rattle.audit.specs.Greedy.{firstFrom, ready};
+ghost use Rattle.funnel.specs.Valid.{Valid};
+use crate::slots::First;
+use funnel::insert::slot_of;
+use funnel::search::find;
+use funnel::table::FunnelTable;
+use funnel::table::Search;
+
+// Whether a slot is ready, with some placed.
+pub fn is_ready(
+    table: FunnelTable,
+    counts: &[u64; 118],
+    words: &[u64],
+    flags: &[u8],
+    marks: &[u8],
+    placed: u64,
+    slot: u64,
+) -> bool
+    requires { ⌜ Valid table (now counts) (now words) (now marks) × (length (now flags) ≡ table .n) × (slot < table .n) ⌝ }
+    ensures { λ r. ⌜ r ≡ ready table (now (counts .entry)) (now (words .entry)) (now (flags .entry)) (now (marks .entry)) placed slot ⌝ }
+{
+    let s = slot as usize;
+    if flags[s] == 0 {
+        return false;
+    }
+    if marks[s] != 0 {
+        return false;
+    }
+    if table.plan.maximum <= placed {
+        return false;
+    }
+    let identity = words[s];
+    match find(table, counts, words, marks, identity) {
+        Search::Vacant { probes: _, place } => {
+            return slot_of(place) == slot;
+        }
+        Search::Hit {
+            probes: _,
+            place: _,
+        } => {
+            return false;
+        }
+        Search::Full { probes: _ } => {
+            return false;
+        }
+        Search::Range(_) => {
+            return false;
+        }
+    }
+}
+
+// The smallest ready slot from one on.
+pub fn next_ready(
+    table: FunnelTable,
+    counts: &[u64; 118],
+    words: &[u64],
+    flags: &[u8],
+    marks: &[u8],
+    placed: u64,
+    start: u64,
+) -> First
+    requires { ⌜ Valid table (now counts) (now words) (now marks) × (length (now flags) ≡ table .n) × (start ≤ table .n) ⌝ }
+    ensures { λ r. ⌜ r ≡ firstFrom (ready table (now (counts .entry)) (now (words .entry)) (now (flags .entry)) (now (marks .entry)) placed) start (table .n - start) ⌝ }
+{
+    let n = table.n;
+    let mut slot = start;
+    while slot < n {
+        if is_ready(table, counts, words, flags, marks, placed, slot) {
+            return First::At { slot };
+        }
+        slot += 1;
+    }
+    First::Nothing
+}

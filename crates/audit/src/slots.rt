@@ -1,0 +1,67 @@
+// Searches for the smallest slot with some property, and the clearing of the marks.
+ghost use mathlib.Core.Path.{_≡_};
+ghost use Prim.Native.Nat.{_≤_};
+ghost use lib.ListN.{length, replicate};
+ghost use Rattle.audit.specs.Check.{dirtyAt};
+ghost use Rattle.audit.specs.Greedy.{firstFrom, unplaced};
+
+// The smallest slot with a property, where there is one.
+pub enum First {
+    At { slot: u64 },
+    Nothing,
+}
+
+// DIRTY: the smallest of n slots whose flag is above 1, or that is vacant with a nonzero word.
+pub fn first_dirty(words: &[u64], flags: &[u8], n: u64) -> First
+    requires { ⌜ (n ≤ length (now words)) × (n ≤ length (now flags)) ⌝ }
+    ensures { λ r. ⌜ r ≡ firstFrom (dirtyAt (now (words .entry)) (now (flags .entry))) 0 n ⌝ }
+{
+    let mut slot = 0;
+    while slot < n {
+        let at = slot;
+        slot += 1;
+        let s = at as usize;
+        let flag = flags[s];
+        if flag == 0 {
+            if words[s] != 0 {
+                return First::At { slot: at };
+            }
+        } else {
+            if 1 < flag {
+                return First::At { slot: at };
+            }
+        }
+    }
+    First::Nothing
+}
+
+// The smallest of n slots that is occupied and not placed.
+pub fn first_unplaced(flags: &[u8], marks: &[u8], n: u64) -> First
+    requires { ⌜ (n ≤ length (now flags)) × (n ≤ length (now marks)) ⌝ }
+    ensures { λ r. ⌜ r ≡ firstFrom (unplaced (now (flags .entry)) (now (marks .entry))) 0 n ⌝ }
+{
+    let mut slot = 0;
+    while slot < n {
+        let at = slot;
+        slot += 1;
+        let s = at as usize;
+        if flags[s] != 0 {
+            if marks[s] == 0 {
+                return First::At { slot: at };
+            }
+        }
+    }
+    First::Nothing
+}
+
+// Every mark 0.
+pub fn clear(marks: &mut [u8])
+    ensures { λ r. ⌜ now (marks .exit) ≡ replicate (length (now (marks .entry))) 0 ⌝ }
+{
+    let n = marks.len();
+    let mut i = 0;
+    while i < n {
+        marks[i] = 0;
+        i += 1;
+    }
+}

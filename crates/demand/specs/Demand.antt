@@ -1,0 +1,117 @@
+-- DEMAND 3: the check accepts a table image exactly if some order of insertions makes it, with the order as witness; otherwise no order
+-- exists, and the placed part is handed back. `Made.antt` says what the words mean; no definition here or there mentions code, and
+-- the contract of the check says that its answer, marks and order are those of `checkOf`. The theorems speak of calls past STATE
+-- (`Lent`: the state is valid and the lent buffers are n long). Assumes nothing.
+use mathlib.Core.List.{List, [], _∷_}
+use mathlib.Core.Path.{_≡_, ap, sym, _∙_}
+use Prim.Native.Nat.{ℕ, _+_, _≤_, _<_}
+use native.Mathlib.Omega.{arith}
+use lib.ListN.{length, getD, take, drop}
+use Rattle.funnel.specs.declared.table.FunnelTable.{FunnelTable}
+use Rattle.audit.specs.declared.check.Checked.{Checked}
+use Rattle.audit.specs.declared.check.Checked.the-variants as checked
+use Rattle.audit.specs.declared.slots.First.the-variants.{At}
+use Rattle.audit.specs.Check.{Ended, ended, checkOf}
+use Rattle.audit.specs.CheckLaws.{Lent}
+use Rattle.audit.specs.FirstLaws.{first-found}
+use Rattle.audit.specs.ReadyLaws.{unplaced-facts, unplaced-yes}
+use Rattle.demand.specs.Made.{Occupied, members, LeavesAt, Made, identitiesAt, PartOf, placedWords}
+use Rattle.demand.specs.MadeLaws.{placed-all, placed-same}
+use Rattle.demand.specs.EndLaws.{Finished, accepted-end, disorder-end, dirty-end, made-answer, end-contains, accepted-marks}
+
+module _ {table : FunnelTable} {counts words flags marks order : List ℕ} (lent : Lent table counts words flags marks order) where
+  -- 1. ACCEPTED. The first `placed` entries of the order are slots whose identities, inserted one after the other into a fresh table, are each
+  -- answered as inserted at its slot, and end in the image slot for slot, words and flags.
+  pub accepted : (placed : ℕ) (marks' order' : List ℕ) → checkOf table counts words flags marks order ≡ ended (checked.Accepted placed) marks' order'
+      → LeavesAt table counts (identitiesAt words (take placed order')) (take placed order') words flags
+  accepted placed marks' order' e =
+      let f = accepted-end lent placed marks' order' e in
+      let m : marks' ≡ flags = accepted-marks lent placed marks' order' f in
+      let w : placedWords words flags ≡ words = placed-all words flags (lent .valid .words-length ∙ sym (lent .valid .flags-length)) (f .clean .vacant-words) in
+      record { after = _; inserts = rw (m, w) at (f .turns .built) }
+
+  -- 2. MADE IMAGES ARE ACCEPTED. If any order of insertions, each answered as inserted, leaves the image, the check accepts it, with every
+  -- member placed.
+  pub made-accepted : Made table counts words flags → checkOf table counts words flags marks order .answer ≡ checked.Accepted (members flags)
+  made-accepted m = made-answer lent m
+
+  -- 3. DISORDERED. No order of insertions leaves the image; `placed` is the number of placed slots; the slot named is occupied and not
+  -- placed, and every smaller occupied slot is placed.
+  pub record Disordered (placed slot : ℕ) (marks' : List ℕ) : Type 0 where
+    pub no-order : Made table counts words flags → ⊥
+    pub number : placed ≡ members marks'
+    pub occupied : Occupied flags slot
+    pub unplaced : getD marks' slot 0 ≡ 0
+    pub smallest : (s : ℕ) → s < slot → Occupied flags s → Occupied marks' s
+
+  pub disordered : (placed slot : ℕ) (marks' order' : List ℕ) → checkOf table counts words flags marks order ≡ ended (checked.Disorder placed slot) marks' order'
+      → Disordered placed slot marks'
+  disordered placed slot marks' order' e =
+      let f = disorder-end lent placed slot marks' order' e in
+      let u = first-found _ 0 (table .n) slot (f .first) in
+      let h = unplaced-facts flags marks' slot (u .holds) in
+      record {
+        no-order = λ m.
+            let a : checked.Disorder placed slot ≡ checked.Accepted (members flags) = sym (ap (λ (x : Ended). x .answer) e) ∙ made-accepted m in
+            let z : _≡_ {A = ℕ} 0 1 = cc in
+            omega arith;
+        number = sym (f .turns .number);
+        occupied = h .0;
+        unplaced = h .1;
+        smallest = λ s l o q.
+            let a = u .before s (omega arith) l in
+            let b = unplaced-yes flags marks' s o q in
+            let z : _≡_ {A = ℕ} 0 1 = cc in
+            omega arith;
+      }
+
+  -- 4. THE PLACED PART of a disordered image is a part of it and is itself made, by the order that was handed back; and if the image has no more
+  -- members than the maximum, it contains every part of the image that some order leaves.
+  pub record PlacedPart (placed : ℕ) (marks' order' : List ℕ) : Type 0 where
+    pub is-part : PartOf (placedWords words marks') marks' words flags
+    pub made : LeavesAt table counts (identitiesAt words (take placed order')) (take placed order') (placedWords words marks') marks'
+    pub contains : members flags ≤ table .plan .maximum → (words' flags' : List ℕ) → PartOf words' flags' words flags → Made table counts words' flags'
+        → PartOf words' flags' (placedWords words marks') marks'
+
+  pub placed-part : (placed slot : ℕ) (marks' order' : List ℕ) → checkOf table counts words flags marks order ≡ ended (checked.Disorder placed slot) marks' order'
+      → PlacedPart placed marks' order'
+  placed-part placed slot marks' order' e =
+      record {
+        is-part = record { occupied = f .turns .part; same = word };
+        made = record { after = _; inserts = f .turns .built };
+        contains = λ few words' flags' p m.
+            let c : (s : ℕ) → Occupied flags' s → Occupied marks' s = λ s o. rw (f .marks-are) (end-contains lent few words' flags' p m s o) in
+            record { occupied = c; same = λ s o. p .same s o ∙ sym (word s (c s o)) };
+      }
+    where
+      f : Finished lent (At slot) placed marks' order'
+      f = disorder-end lent placed slot marks' order' e
+
+      word : (s : ℕ) → Occupied marks' s → getD (placedWords words marks') s 0 ≡ getD words s 0
+      word s o = placed-same words marks' s (lent .valid .words-length ∙ sym (f .turns .marks-n)) o
+
+  -- 5. DIRTY images are made by no order.
+  pub dirty : (slot : ℕ) (marks' order' : List ℕ) → checkOf table counts words flags marks order ≡ ended (checked.Dirty slot) marks' order' → Made table counts words flags → ⊥
+  dirty slot marks' order' e m =
+      let a : checked.Dirty slot ≡ checked.Accepted (members flags) = sym (ap (λ (x : Ended). x .answer) e) ∙ made-accepted m in
+      let z : _≡_ {A = ℕ} 0 1 = cc in
+      omega arith
+
+  -- Both endings leave 0 and 1 in the marks, as many 1 as were placed, only under members, and the tail of the order as it was.
+  pub record Left (placed : ℕ) (marks' order' : List ℕ) : Type 0 where
+    pub bits : (s : ℕ) → getD marks' s 0 ≤ 1
+    pub marked : (s : ℕ) → Occupied marks' s → Occupied flags s
+    pub number : placed ≡ members marks'
+    pub marks-n : length marks' ≡ table .n
+    pub order-n : length order' ≡ length order
+    pub tail : drop placed order' ≡ drop placed order
+
+  pub accepted-left : (placed : ℕ) (marks' order' : List ℕ) → checkOf table counts words flags marks order ≡ ended (checked.Accepted placed) marks' order' → Left placed marks' order'
+  accepted-left placed marks' order' e =
+      let t = accepted-end lent placed marks' order' e .turns in
+      record { bits = t .bits; marked = t .part; number = sym (t .number); marks-n = t .marks-n; order-n = t .order-n; tail = t .tail }
+
+  pub disordered-left : (placed slot : ℕ) (marks' order' : List ℕ) → checkOf table counts words flags marks order ≡ ended (checked.Disorder placed slot) marks' order' → Left placed marks' order'
+  disordered-left placed slot marks' order' e =
+      let t = disorder-end lent placed slot marks' order' e .turns in
+      record { bits = t .bits; marked = t .part; number = sym (t .number); marks-n = t .marks-n; order-n = t .order-n; tail = t .tail }
