@@ -80,9 +80,18 @@ pub extern "C" fn bench_place_all(
 fn is_all(answer: Placement) -> bool {
     match answer {
         Placement::All => true,
-        Placement::Range { index: _, refusal: _ } => false,
-        Placement::Exhausted { index: _, probes: _ } => false,
-        Placement::Full { index: _, probes: _ } => false,
+        Placement::Range {
+            index: _,
+            refusal: _,
+        } => false,
+        Placement::Exhausted {
+            index: _,
+            probes: _,
+        } => false,
+        Placement::Full {
+            index: _,
+            probes: _,
+        } => false,
     }
 }
 
@@ -105,8 +114,14 @@ pub extern "C" fn bench_insert(
 
 fn is_inserted(answer: Insertion) -> bool {
     match answer {
-        Insertion::Inserted { probes: _, place: _ } => true,
-        Insertion::Duplicate { probes: _, place: _ } => false,
+        Insertion::Inserted {
+            probes: _,
+            place: _,
+        } => true,
+        Insertion::Duplicate {
+            probes: _,
+            place: _,
+        } => false,
         Insertion::Range(_) => false,
         Insertion::Exhausted { probes: _ } => false,
         Insertion::Full { probes: _ } => false,

@@ -260,3 +260,16 @@ module _ (n e seed cap : ℕ) (counts words flags : List ℕ) (r : Gated) (is : 
         let a = open-facts n e cap (length words) (length flags) (sym is ∙ h) in
         let b : IsPlan n e plan counts' = rw g at plans in
         (sym is ∙ h, b, x ∙ ap (λ (k : ℕ). replicate k 0) (a .3), y ∙ ap (λ (k : ℕ). replicate k 0) (a .4), refl)
+
+-- an opening has one outcome
+pub opens-unique : (n e seed cap : ℕ) (counts words flags : List ℕ) (r s : OpenAnswer) (c w f d v g : List ℕ)
+    → Opens n e seed cap counts words flags r c w f → Opens n e seed cap counts words flags s d v g → (r ≡ s) × (c ≡ d) × (w ≡ v) × (f ≡ g)
+unfolding Opens
+opens-unique n e seed cap counts words flags (opened.Gate x) (opened.Gate y) c w f d v g a b =
+    let h : x ≡ y = cc (a .0, b .0) in
+    (rw h, a .1 ∙ sym (b .1), a .2 ∙ sym (b .2), a .3 ∙ sym (b .3))
+opens-unique n e seed cap counts words flags (opened.Gate x) (opened.Table t) c w f d v g a b = let z : _≡_ {A = ℕ} 0 1 = cc (a .0, b .0) in absurd (omega arith)
+opens-unique n e seed cap counts words flags (opened.Table t) (opened.Gate y) c w f d v g a b = let z : _≡_ {A = ℕ} 0 1 = cc (a .0, b .0) in absurd (omega arith)
+opens-unique n e seed cap counts words flags (opened.Table t) (opened.Table u) c w f d v g a b =
+    let p = plan-unique (a .1) (b .1) in
+    (cc (a .4, b .4, p .0), p .1, a .2 ∙ sym (b .2), a .3 ∙ sym (b .3))

@@ -35,7 +35,7 @@ pub vacant-within : {table : FunnelTable} {counts words flags : List ℕ} → Va
 unfolding findOf searchOf
 vacant-within {table} {counts} {words} {flags} valid identity k p h =
     let l : slotOf p < table .n =
-        every-reached (λ q. slotOf q < table .n) (walk-vacant words flags identity _ _ 0 k p h .0) (path-below (valid .planned) (table .seed) (table .«word_cap») identity) in
+    every-reached (λ q. slotOf q < table .n) (walk-vacant words flags identity _ _ 0 k p h .0) (path-below (valid .planned) (table .seed) (table .«word_cap») identity) in
     let v = valid .words-length in
     let w = valid .flags-length in
     (omega arith, omega arith)

@@ -3,12 +3,16 @@ pub mod Calls
 pub mod Every
 pub mod EveryLaws
 pub mod FindLaws
+pub mod Fresh
+pub mod FreshLaws
 pub mod Insert
 pub mod InsertLaws
+pub mod OrderLaws
 pub mod Path
 pub mod PathLaws
 pub mod PlaceLaws
 pub mod PlanLaws
+pub mod ReadingLaws
 pub mod Search
 pub mod SearchLaws
 pub mod StageLaws

@@ -4,9 +4,16 @@ ghost use mathlib.Core.Path.{_≡_};
 ghost use lib.ListN.{length, replicate};
 ghost use Rattle.geometry.specs.declared.config.Gated.the-variants.{Passed};
 ghost use Rattle.funnel.specs.Calls.{limitsThen, lengthsThen, tableGate, openGate, placeGate, Opens, searchAnswerOf, insertions, insertAnswerOf, placements, placeAnswerOf};
-use crate::table::{FunnelTable, InsertAnswer, OpenAnswer, PlaceAnswer, SearchAnswer};
+use crate::table::FunnelTable;
+use crate::table::InsertAnswer;
+use crate::table::OpenAnswer;
+use crate::table::PlaceAnswer;
+use crate::table::SearchAnswer;
 use geometry::config::Gated;
-use geometry::funnel::{funnel_gate, funnel_plan, is_funnel_plan, FunnelPlanned};
+use geometry::funnel::FunnelPlanned;
+use geometry::funnel::funnel_gate;
+use geometry::funnel::funnel_plan;
+use geometry::funnel::is_funnel_plan;
 use refusal::Gate;
 
 // "Funnel word cap 1 to 256"
@@ -56,7 +63,13 @@ pub fn search(
 {
     match table_gate(table, counts, words.len() as u64, flags.len() as u64) {
         Gated::Refused(g) => SearchAnswer::Gate(g),
-        Gated::Passed => SearchAnswer::Found(crate::search::find(table, counts, words, flags, identity)),
+        Gated::Passed => SearchAnswer::Found(crate::search::find(
+            table,
+            counts,
+            words,
+            flags,
+            identity,
+        )),
     }
 }
 
@@ -72,7 +85,13 @@ pub fn insert(
 {
     match table_gate(table, counts, words.len() as u64, flags.len() as u64) {
         Gated::Refused(g) => InsertAnswer::Gate(g),
-        Gated::Passed => InsertAnswer::Done(crate::insert::insert(table, counts, words, flags, identity)),
+        Gated::Passed => InsertAnswer::Done(crate::insert::insert(
+            table,
+            counts,
+            words,
+            flags,
+            identity,
+        )),
     }
 }
 
@@ -97,7 +116,12 @@ pub fn place_all(
     ) {
         Gated::Refused(g) => PlaceAnswer::Gate(g),
         Gated::Passed => PlaceAnswer::Done(crate::place_all::place_all(
-            table, counts, words, flags, identities, slots,
+            table,
+            counts,
+            words,
+            flags,
+            identities,
+            slots,
         )),
     }
 }

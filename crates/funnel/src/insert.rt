@@ -5,7 +5,10 @@ ghost use Rattle.funnel.specs.Path.{slotOf};
 ghost use Rattle.funnel.specs.Insert.{done, withCount, stepped, insertOf};
 ghost use Rattle.funnel.specs.Valid.{Valid};
 use crate::search::find;
-use crate::table::{FunnelTable, Insertion, Search, Step};
+use crate::table::FunnelTable;
+use crate::table::Insertion;
+use crate::table::Search;
+use crate::table::Step;
 use words::place::Place;
 
 // The insertion of an identity: at the first vacancy of its path, unless it is there already.
@@ -21,7 +24,11 @@ pub fn insert(
 {
     let count = table.count;
     let answer = put(table, count, counts, words, flags, identity);
-    let Insertion::Inserted { probes: _, place: _ } = answer else {
+    let Insertion::Inserted {
+        probes: _,
+        place: _,
+    } = answer
+    else {
         return Step { answer, table };
     };
     let mut next = table;

@@ -1,4 +1,26 @@
-// Funnel tables.
+// Funnel tables: path, search, insertion. Carries `ScalarFunnel` with `FunnelPrf` of the Rust's reference.rs, and 01's
+// "Tables" as far as it is about funnels.
+//
+// A table is a small state by value, with the counts of its levels, n words and n flags lent beside it. Its slots lie side
+// by side:
+//
+//     0          start of level k                    n - s                   n - floor(s/2)          n
+//     | level 0 | .. | count_k buckets of beta | .. | primary, ceil(s/2)    | buckets of width 2g   |
+//
+// An identity has one path, whatever the table holds: in each level one bucket, its beta slots in order; then g primary
+// probes; then two fallback buckets, both drawn before either is read, slot by slot. A search walks along it and stops at
+// the identity or at the first vacancy; the probe count is the number of slots read. An insertion writes at that vacancy.
+// A draw that is refused ends the path, and the search with it.
+//
+//     table.rt      the state, and what the calls answer
+//     scan.rt       walks over slots, the only readers of the buffers
+//     search.rt     the stages of a path, and the search along all of it, in a valid table
+//     insert.rt     insertion into a valid table
+//     place_all.rt  many insertions into a valid table
+//     calls.rt      the public calls: open, search, insert, place_all. Each tests the state, 1 to 7, and requires nothing
+//
+// specs/Path.antt says what a path is, Search.antt and Insert.antt what a search and an insertion are, Calls.antt what the
+// public calls answer; FreshLaws.antt has the theorems about a table over time.
 
 pub mod calls;
 pub mod insert;

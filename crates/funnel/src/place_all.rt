@@ -4,8 +4,12 @@ ghost use Prim.Native.Nat.{_≤_};
 ghost use lib.ListN.{length};
 ghost use Rattle.funnel.specs.Insert.{placed, withCount, placeAllOf};
 ghost use Rattle.funnel.specs.Valid.{Valid};
-use crate::insert::{put, slot_of};
-use crate::table::{FunnelTable, Insertion, PlacedAll, Placement};
+use crate::insert::put;
+use crate::insert::slot_of;
+use crate::table::FunnelTable;
+use crate::table::Insertion;
+use crate::table::PlacedAll;
+use crate::table::Placement;
 
 // For each identity the slot where it is or was put, up to the first refusal. Slots past that are left as they were.
 pub fn place_all(

@@ -6,7 +6,8 @@ ghost use lib.ListN.{length};
 ghost use Rattle.funnel.specs.Path.{slotOf, run, bucketFrom, pairsFrom};
 ghost use Rattle.funnel.specs.Search.{searchOf};
 use crate::table::Search;
-use words::place::{GlobalSlot, Place};
+use words::place::GlobalSlot;
+use words::place::Place;
 
 // The search along a bucket of w slots that starts at the slot `from`, with some probes made before.
 pub fn scan(
@@ -54,7 +55,14 @@ pub fn scan(
 }
 
 // The reading of one place, whose slot is `at`, with some probes made before.
-pub fn read(words: &[u64], flags: &[u8], identity: u64, place: Place, at: u64, probes: u64) -> Search
+pub fn read(
+    words: &[u64],
+    flags: &[u8],
+    identity: u64,
+    place: Place,
+    at: u64,
+    probes: u64,
+) -> Search
     requires { ⌜ (slotOf place ≡ at) × (at < length (now words)) × (at < length (now flags)) × (probes + 1 < 2 ^ 64) ⌝ }
     ensures { λ r. ⌜ r ≡ searchOf (now (words .entry)) (now (flags .entry)) identity (run (place ∷ [])) probes ⌝ }
 {

@@ -7,12 +7,19 @@ ghost use Rattle.probe.specs.Range.{drawOf};
 ghost use Rattle.funnel.specs.Path.{levelsFrom, primaryFrom, fallbackOf};
 ghost use Rattle.funnel.specs.Search.{searchOf, findOf};
 ghost use Rattle.funnel.specs.Valid.{Valid, Keyed, SpecialRoom};
-use crate::scan::{read, scan, scan_pairs};
-use crate::table::{FunnelTable, Search};
-use probe::counter::{funnel_base, Domain};
-use probe::range::{funnel_draw, Drawn};
-use probe::word::{funnel_key, FunnelKey};
-use words::place::{GlobalSlot, Place};
+use crate::scan::read;
+use crate::scan::scan;
+use crate::scan::scan_pairs;
+use crate::table::FunnelTable;
+use crate::table::Search;
+use probe::counter::Domain;
+use probe::counter::funnel_base;
+use probe::range::Drawn;
+use probe::range::funnel_draw;
+use probe::word::FunnelKey;
+use probe::word::funnel_key;
+use words::place::GlobalSlot;
+use words::place::Place;
 
 // The search for an identity in a valid table. The key is worked out once.
 pub fn find(

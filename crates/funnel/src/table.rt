@@ -1,6 +1,7 @@
 // The state of a funnel table, and what its calls answer.
 use geometry::funnel::FunnelPlan;
-use refusal::{Gate, RangeRefusal};
+use refusal::Gate;
+use refusal::RangeRefusal;
 use words::place::Place;
 
 // A table of n slots with reserve 2^-e. Its words, its flags and the counts of its levels are lent beside it.

@@ -85,6 +85,16 @@ module _ (n e : ℕ) where
 pub plan-passes : {n e : ℕ} {p : FunnelPlan} {cs : List ℕ} → IsPlan n e p cs → funnelGate n e ≡ Passed
 plan-passes {n} {e} {p} {cs} i = gate-pass n e (p, cs, i)
 
+-- what an answer says
+module _ (n e : ℕ) (before after : List ℕ) where
+  pub planned-plan : (p : FunnelPlan) → Planned n e before (Plan p) after → IsPlan n e p after
+  unfolding Planned
+  planned-plan p i = i
+
+  pub planned-refused : (g : Gate) → Planned n e before (Refused g) after → (funnelGate n e ≡ GateRefused g) × (after ≡ before)
+  unfolding Planned
+  planned-refused g i = i
+
 -- the answer and the counts at exit are one
 pub planned-unique : (n e : ℕ) (old : List ℕ) (r t : FunnelPlanned) (a b : List ℕ) → Planned n e old r a → Planned n e old t b → (r ≡ t) × (a ≡ b)
 unfolding Planned

@@ -6,14 +6,16 @@ use native.Mathlib.Nat.{div-mul-cancel, mul-le-mul-right}
 use native.Mathlib.Omega.{arith}
 use lib.ListN.{length, take, drop, getD, length-append, length-replicate, getD-replicate, take-append-drop}
 use lib.Seq.{getD-take, getD-drop}
+use Rattle.geometry.specs.Config.{maximum}
 use Rattle.geometry.specs.ExtremeLaws.{largest-one}
 use Rattle.geometry.specs.Counts.{Counts, total}
 use Rattle.geometry.specs.CountsLaws.{counts-one}
-use Rattle.geometry.specs.Special.{loglog, SpecialMeasured}
+use Rattle.geometry.specs.Special.{loglog, specialLeast, specialMost, SpecialMeasured}
 use Rattle.geometry.specs.SpecialLaws.{factor-pos, buckets-enough}
 use Rattle.geometry.specs.LoglogLaws.{loglog-facts}
-use Rattle.geometry.specs.LengthLaws.{length-facts, exponent-most}
-use Rattle.geometry.specs.LevelLaws.{counts-length, counts-total, counts-some, counts-fall, total-le, start-next}
+use Rattle.geometry.specs.LengthLaws.{length-facts, exponent-most, most-within}
+use Rattle.geometry.specs.PeriodLaws.{measured-most}
+use Rattle.geometry.specs.LevelLaws.{counts-length, counts-total, counts-some, counts-fall, total-next, total-le, start-next}
 use Rattle.geometry.specs.Funnel.{alphaOf, betaOf, PlanNumbers, PlanCounts, IsPlan}
 use Rattle.geometry.specs.declared.funnel.FunnelPlan.{FunnelPlan}
 
@@ -23,6 +25,7 @@ pub record PlanFacts (n e : ℕ) (p : FunnelPlan) (cs : List ℕ) : Type 0 where
   pub n-most : n ≤ 4294967296
   pub e-least : 3 ≤ e
   pub e-most : e ≤ 27
+  pub maximum-is : p .maximum ≡ maximum n e
   pub maximum-most : p .maximum ≤ n
   pub alpha-is : p .alpha ≡ 4 * e + 10
   pub alpha-most : p .alpha ≤ 118
@@ -37,9 +40,11 @@ pub record PlanFacts (n e : ℕ) (p : FunnelPlan) (cs : List ℕ) : Type 0 where
   pub primary-some : 0 < p .«special_primary_len»
   pub fallback-is : p .«special_fallback_len» ≡ p .«special_len» / 2
   pub fallback-some : 0 < p .«fallback_bucket_count»
+  pub fallback-most : p .«fallback_bucket_count» ≤ n
   pub fallback-fill : p .«fallback_bucket_count» * p .«fallback_bucket_width» ≡ p .«special_fallback_len»
   pub main-fill : p .«total_buckets» * p .beta ≡ n - p .«special_len»
   pub buckets-least : p .alpha ≤ p .«total_buckets»
+  pub buckets-most : p .«total_buckets» ≤ n
   -- the counts
   pub counts-118 : length cs ≡ 118
   pub counts-sum : total (take (p .alpha) cs) ≡ p .«total_buckets»
@@ -90,11 +95,13 @@ module _ {n e : ℕ} {p : FunnelPlan} {cs : List ℕ} (i : IsPlan n e p cs) wher
       let w = m .is-width in
       let x = m .is-primary in
       let y = m .is-fallback in
+      let few = measured-most n (specialLeast n e) (specialMost n e) e (2 * loglog n) (p .«special_len») (p .«total_buckets») (p .«fallback_bucket_count») (omega (arith, i .exponent)) (omega (arith, g .least)) (most-within n e) d in
       record {
         n-least = i .configured .least;
         n-most = i .configured .most;
         e-least = i .exponent;
         e-most = e-top;
+        maximum-is = m .is-maximum;
         maximum-most = omega (arith, m .is-maximum);
         alpha-is = a;
         alpha-most = omega (arith, e-top);
@@ -108,9 +115,11 @@ module _ {n e : ℕ} {p : FunnelPlan} {cs : List ℕ} (i : IsPlan n e p cs) wher
         primary-some = omega (arith, d .largest .holds .some);
         fallback-is = y;
         fallback-some = half-some;
+        fallback-most = few .1;
         fallback-fill = rw (w, y) half-whole;
         main-fill = rw b main-whole;
         buckets-least = omega (arith, enough);
+        buckets-most = few .0;
         counts-118 = size;
         counts-sum = rw a (counts-total (p .«total_buckets») (alphaOf e) (take (alphaOf e) cs) (c .counts));
         first-is = c .is-first;
@@ -124,6 +133,11 @@ module _ {n e : ℕ} {p : FunnelPlan} {cs : List ℕ} (i : IsPlan n e p cs) wher
   count-some k h =
       let l = within k h in
       rw (getD-take (alphaOf e) cs k 0 l) at (counts-some (p .«total_buckets») (alphaOf e) (take (alphaOf e) cs) (omega (arith, enough)) (c .counts) k l)
+
+  pub count-most : (k : ℕ) → k < p .alpha → getD cs k 0 ≤ n
+  count-most k h =
+      let f = plan-facts in
+      omega (arith, total-next cs k (omega arith), total-le cs (k + 1) (p .alpha) (omega arith))
 
   -- no level has more buckets than the one before
   pub count-fall : (k : ℕ) → k + 1 < p .alpha → getD cs (k + 1) 0 ≤ getD cs k 0

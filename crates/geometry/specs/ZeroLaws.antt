@@ -1,10 +1,11 @@
--- Entries that are 0 from one on: cleared, and counted one by one. Assumes nothing.
+-- Entries that are 0 from one on: cleared, and gathered bit by bit. Assumes nothing.
 use mathlib.Core.Path.{_≡_, refl, sym, ap, _∙_}
 use mathlib.Core.List.{List, _++_, append-nil}
-use Prim.Native.Nat.{ℕ, zero, suc, _+_, _-_, _≤_, _<_, min}
+use Prim.Native.Nat.{ℕ, zero, suc, _+_, _-_, _≤_, _<_}
 use native.Mathlib.Nat.{lt-of-not-le}
 use native.Mathlib.Decide.{decLe}
 use native.Mathlib.Omega.{arith}
+use lib.Bits.{bitOr, or-add-and, and-le-l, and-le-r, or-zero-l}
 use lib.ListN.{length, drop, getD, replicate, length-drop, length-replicate, getD-replicate, drop-of-length-le}
 use lib.Seq.{getD-drop, ext-getD}
 
@@ -32,32 +33,39 @@ module _ (cs : List ℕ) (from : ℕ) where
           let m = length-drop from cs in
           getD-drop from cs k 0 ∙ h (from + k) (omega arith) (omega arith) ∙ sym (getD-replicate {A = ℕ} (length cs - from) k 0 0 (omega arith))
 
-  -- how many of the entries up to i are others than 0
+  -- the bits of the entries up to i together
   pub record Others (i others : ℕ) : Type 0 where
     pub least : from ≤ i
     pub most : i ≤ length cs
-    pub few : others + from ≤ i
     pub none : others ≡ 0 → (k : ℕ) → from ≤ k → k < i → getD cs k 0 ≡ 0
     pub some : (others ≡ 0 → ⊥) → drop from cs ≡ replicate (length cs - from) 0 → ⊥
 
   pub others-start : from ≤ length cs → Others from 0
-  others-start h = record { least = omega arith; most = h; few = omega arith; none = λ z k a b. absurd (omega arith); some = λ z. absurd (z refl) }
+  others-start h = record { least = omega arith; most = h; none = λ z k a b. absurd (omega arith); some = λ z. absurd (z refl) }
 
-  pub others-more : {i others : ℕ} → Others i others → i < length cs → Others (i + 1) (others + min 1 (getD cs i 0))
+  pub others-more : {i others : ℕ} → Others i others → i < length cs → Others (i + 1) (bitOr others (getD cs i 0))
   others-more {i} {others} o l =
       let a = o .least in
-      let b = o .few in
-      record { least = omega arith; most = omega arith; few = omega arith; none = none; some = some }
+      record { least = omega arith; most = omega arith; none = none; some = some }
     where
-      none : others + min 1 (getD cs i 0) ≡ 0 → (k : ℕ) → from ≤ k → k < i + 1 → getD cs k 0 ≡ 0
+      both : bitOr others (getD cs i 0) ≡ 0 → (others ≡ 0) × (getD cs i 0 ≡ 0)
+      both z =
+          let p = or-add-and others (getD cs i 0) in
+          let q = and-le-l others (getD cs i 0) in
+          let r = and-le-r others (getD cs i 0) in
+          (omega arith, omega arith)
+
+      none : bitOr others (getD cs i 0) ≡ 0 → (k : ℕ) → from ≤ k → k < i + 1 → getD cs k 0 ≡ 0
       none z k a b = go (decLe i k)
         where
           go : Dec (i ≤ k) → getD cs k 0 ≡ 0
-          go (yes p) = let e : i ≡ k = omega arith in let y : getD cs i 0 ≡ 0 = omega arith in rw (← e) y
-          go (no q) = o .none (omega arith) k a (lt-of-not-le q)
+          go (yes p) = let e : i ≡ k = omega arith in rw (← e) (both z .1)
+          go (no q) = o .none (both z .0) k a (lt-of-not-le q)
 
-      some : (others + min 1 (getD cs i 0) ≡ 0 → ⊥) → drop from cs ≡ replicate (length cs - from) 0 → ⊥
-      some z h = let y = zero-at h i (o .least) l in o .some (λ x. z (omega arith)) h
+      some : (bitOr others (getD cs i 0) ≡ 0 → ⊥) → drop from cs ≡ replicate (length cs - from) 0 → ⊥
+      some z h =
+          let y = zero-at h i (o .least) l in
+          o .some (λ x. z (rw (x, y) (or-zero-l 0))) h
 
   pub others-none : {i others : ℕ} → Others i others → length cs ≤ i → others ≡ 0 → drop from cs ≡ replicate (length cs - from) 0
   others-none o l z = zeros (λ k a b. o .none z k a (omega arith))

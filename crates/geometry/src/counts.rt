@@ -131,22 +131,18 @@ pub fn maximum_path_sum_at_least(x: u64, levels: usize, sum: u64) -> bool
     rem <= 0
 }
 
-// The smallest count that may follow x.
+// The smallest count that may follow x. The form is short from x to the result: walks along a path wait for it.
 pub fn minimum_next_bucket_count(x: u64) -> u64
     ensures { λ r. ⌜ r ≡ low x ⌝ }
 {
-    let c = x - x / 4;
-    if c <= 2 { 1 } else { c - 1 }
+    if x <= 2 { 1 } else { x - 1 - x / 4 }
 }
 
-// The largest count that may follow x.
+// The largest count that may follow x, as short: above 0, ceil(x/4) is floor((x-1)/4) + 1.
 pub fn maximum_next_bucket_count(x: u64) -> u64
     ensures { λ r. ⌜ r ≡ high x ⌝ }
 {
-    if x == 0 {
-        return 0;
-    }
-    x - x / 4 - (x % 4 + 3) / 4 + 1
+    if x == 0 { 0 } else { x - (x - 1) / 4 }
 }
 
 // All entries become 0.

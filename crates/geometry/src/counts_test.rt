@@ -1,7 +1,7 @@
 // Whether given counts are those of a funnel's levels, by one walk from their end, with the same truth as computing them.
 ghost use mathlib.Core.Path.{_≡_};
 ghost use mathlib.Core.Bool.{true, false};
-ghost use Prim.Native.Nat.{ℕ, _+_, _-_, _<_, _≤_, min};
+ghost use Prim.Native.Nat.{ℕ, _+_, _-_, _<_, _≤_};
 ghost use lib.ListN.{length, take, drop, replicate};
 ghost use Rattle.geometry.specs.Says.{Says};
 ghost use Rattle.geometry.specs.Counts.{low, lowSum, Counts};
@@ -34,20 +34,13 @@ fn zero_from(counts: &[u64], from: usize) -> bool
     let mut others = 0;
     let mut i = from;
     while i < counts.len() {
-        others += one_unless_zero(counts[i]);
+        others = others | counts[i];
         i += 1;
     }
     if others == 0 {
         return true;
     }
     false
-}
-
-// 0 of 0, else 1.
-fn one_unless_zero(x: u64) -> u64
-    ensures { λ r. ⌜ r ≡ min 1 x ⌝ }
-{
-    if x == 0 { 0 } else { 1 }
 }
 
 // Whether the counts in front are those of t buckets over the levels.

@@ -121,7 +121,7 @@ fn fill(n: u64, e: u32, levels: u64, maximum: u64, lengths: &mut [u64], quotas: 
 }
 
 // The length of level i where `rest` slots remain.
-fn next_length(levels: u64, i: u64, rest: u64) -> u64
+pub fn next_length(levels: u64, i: u64, rest: u64) -> u64
     ensures { λ r. ⌜ r ≡ nextLength (levels - i) rest ⌝ }
 {
     if levels <= i {

@@ -69,7 +69,7 @@ pub fn funnel_gate(n: u64, e: u32) -> Gated
     }
 }
 
-// Whether these are the plan of n and e: every number of it, and all 118 entries.
+// Whether these are the plan of n and e: every number of it, and all 118 entries. No exponent above 27 has a plan.
 pub fn is_funnel_plan(n: u64, e: u32, plan: FunnelPlan, counts: &[u64; 118]) -> bool
     ensures { λ r. ⌜ r ≡ isPlan n e plan (now (counts .entry)) ⌝ }
 {

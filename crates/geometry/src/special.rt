@@ -52,8 +52,8 @@ fn special_most(n: u64, e: u64) -> u64
     if part < n - main { part } else { n - main }
 }
 
-// The largest length of the range that leaves whole buckets of 2 * h, and has a half of whole buckets of w; 0 where there
-// is none.
+// The largest length of the range that leaves whole buckets of 2 * h and whose half is whole buckets of w; 0 where there is
+// none.
 fn largest_special_length(n: u64, lo: u64, hi: u64, h: u64, w: u64) -> u64
     requires { ⌜ (hi ≤ n) × (0 < h) × (h ≤ 27) × (0 < w) × (2 ≤ lo) ⌝ }
     ensures { λ r. ⌜ Found n lo hi (2 * h) w r ⌝ }
@@ -104,8 +104,8 @@ pub fn special_parts_hold(n: u64, e: u64, g: u64, s: u64, main: u64, half: u64) 
     special_holds(n, lo, hi, e, 2 * g, s, main, half)
 }
 
-// Whether s is the largest of its range, with `main` buckets before it and `half` buckets in its fallback: it lies in its range, both
-// parts are filled, and one period more is past the range. Products stand where a division would.
+// Whether s is the largest of its range, with `main` buckets before it and `half` buckets in its fallback: both parts are
+// filled, and one period more is past the range. Products stand where a division would.
 fn special_holds(n: u64, lo: u64, hi: u64, h: u64, w: u64, s: u64, main: u64, half: u64) -> bool
     requires { ⌜ (hi ≤ n) × (n ≤ 4294967296) × (0 < h) × (h ≤ 27) × (0 < w) × (w ≤ 10) × (2 ≤ lo) ⌝ }
     ensures { λ r. ⌜ Says r (Measured n lo hi (2 * h) w s main half) ⌝ }

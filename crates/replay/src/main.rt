@@ -1,22 +1,11 @@
 // replay: reads a script of calls, one command a line, and prints every answer. The same commands fed to the oracle,
 // the Rust beside this repository, give the same lines; a sample of its answers is this program's stored output.
 //
-//     layouts.rt   EL FL
-//     probes.rt    MIX EP FP EW FW ER FR PHI PHB PHINV BUD
-//     funnels.rt   FRUN FBULK
 //
 // A line that is no command prints `?`. A line longer than 524,288 bytes, or a table of more than 65,536 slots, is more
 // than this program holds, and prints `L`.
-mod digest;
-mod funnels;
-mod layouts;
-mod operation;
-mod print;
-mod probes;
 
-use text::field::field_after;
-use text::field::field_end;
-use text::field::is_word;
+use script::command;
 use text::line::Gathered;
 use text::line::gather;
 use text::out::flush;
@@ -97,29 +86,4 @@ fn answer(line: &[u8], length: usize, out: &mut [u8], at: usize) -> usize {
     }
     let to = command(&line[..length], out, at);
     put_byte(out, to, b'\n')
-}
-
-// The answer to a command: its first field names it, the others are its arguments.
-fn command(line: &[u8], out: &mut [u8], at: usize) -> usize {
-    let end = field_end(line, 0);
-    let args = field_after(line, end);
-    if is_word(line, 0, end, b"EL") {
-        return layouts::elastic(line, args, out, at);
-    }
-    if is_word(line, 0, end, b"FL") {
-        return layouts::funnel(line, args, out, at);
-    }
-    if is_word(line, 0, end, b"FRUN") {
-        return funnels::run(line, args, out, at);
-    }
-    if is_word(line, 0, end, b"FBULK") {
-        return funnels::bulk(line, args, out, at);
-    }
-    if is_word(line, 0, end, b"PHI") {
-        return probes::position(line, args, out, at);
-    }
-    if is_word(line, 0, end, b"PHINV") {
-        return probes::coordinates(line, args, out, at);
-    }
-    probes::command(line, end, args, out, at)
 }

@@ -1,10 +1,10 @@
 -- `funnel::calls::clear_flags` meets its contract. The invariant: zeros in front, and behind them the old entries. Assumes nothing.
+use Prim.Native.Nat.{ℕ, _-_, _≤_}
 use mathlib.Core.Path.{_≡_, refl, ap, _∙_}
 use mathlib.Core.List.{List, _++_}
-use Prim.Native.Nat.{ℕ, _-_, _≤_}
 use native.Mathlib.Omega.{arith}
 use lib.ListN.{length, drop, set, replicate, length-set}
-use borrow.Author.Fill.{fill-none, fill-more}
+use borrow.Author.Fill.{fill-more}
 use Rattle.geometry.specs.ZeroLaws.{cleared}
 use Rattle.funnel.proofs.calls.clear_flags.Statement.{statement}
 use Rattle.funnel.proofs.calls.clear_flags.Tie as tie

@@ -1,41 +1,30 @@
-use Rattle.funnel.specs.CallLaws.{passed-valid, insert-refused, insert-passed}
+-- `funnel::calls::insert` meets its contract. By what its gate said. Assumes nothing.
 use borrow.Author.Needs.{needs}
+use Rattle.funnel.specs.CallLaws.{passed-valid, insert-refused, insert-passed}
 use Rattle.funnel.proofs.calls.insert.Statement.{statement}
 use Rattle.funnel.proofs.calls.insert.Tie as tie
-use Rattle.funnel.proofs.calls.insert.Reads as reads
-use Rattle.funnel.proofs.calls.insert.Lts as lts
-use Rattle.funnel.proofs.calls.table_gate.Reads as table-gate-reads
-use Rattle.funnel.proofs.insert.insert.Reads as insert-reads
 
--- src/calls.rt:73:11
 table-gate-requires : tie.Need-table-gate-requires
 table-gate-requires c κs = search needs
 
--- src/calls.rt:74:24
 enum-known-g : tie.Need-enum-known-g
 enum-known-g c = search needs
 
--- src/calls.rt:75:82
 enum-told : tie.Need-enum-told
 enum-told c = search needs
 
--- src/calls.rt:75:45
 insert-requires : tie.Need-insert-requires
 insert-requires c κs = passed-valid _ _ _ _ _ (c .before .before .before .before .table-gate .ensures) (c .before .before .enum-told .given .1)
 
--- src/calls.rt:64:1
 returns : tie.Need-returns
 returns c = insert-refused _ _ _ _ _ (c .before .before .before .table-gate .ensures) _ _ (c .before .g .given .1)
 
--- src/calls.rt:64:1
 same-length : tie.Need-same-length
 same-length c = search needs
 
--- src/calls.rt:64:1
 same-length-2 : tie.Need-same-length-2
 same-length-2 c = search needs
 
--- src/calls.rt:64:1
 returns-2 : tie.Need-returns-2
 returns-2 c = insert-passed _ _ _ _ _ (c .before .before .before .before .before .before .before .before .before .table-gate .ensures) _ _ _ _ (c .before .before .before .before .before .before .before .enum-told .given .1) (c .before .before .before .before .insert .ensures)
 

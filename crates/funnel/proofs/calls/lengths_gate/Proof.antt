@@ -1,19 +1,15 @@
-use Rattle.funnel.specs.CallLaws.{lengths-words, lengths-flags, lengths-pass}
+-- `funnel::calls::lengths_gate` meets its contract. Test by test. Assumes nothing.
 use native.Mathlib.Omega.{arith}
+use Rattle.funnel.specs.CallLaws.{lengths-words, lengths-flags, lengths-pass}
 use Rattle.funnel.proofs.calls.lengths_gate.Statement.{statement}
 use Rattle.funnel.proofs.calls.lengths_gate.Tie as tie
-use Rattle.funnel.proofs.calls.lengths_gate.Reads as reads
-use Rattle.funnel.proofs.calls.lengths_gate.Lts as lts
 
--- src/calls.rt:173:9
 returns : tie.Need-returns
 returns c = lengths-words _ _ _ _ (c .if1 .taken)
 
--- src/calls.rt:176:9
 returns-2 : tie.Need-returns-2
 returns-2 c = lengths-flags _ _ _ _ (omega (arith, c .before .if1 .left)) (c .if2 .taken)
 
--- src/calls.rt:169:1
 returns-3 : tie.Need-returns-3
 returns-3 c = lengths-pass _ _ _ _ (omega (arith, c .before .if1 .left)) (omega (arith, c .if2 .left))
 

@@ -1,33 +1,24 @@
-use Rattle.funnel.specs.CallLaws.{passed-valid, search-refused, search-passed}
+-- `funnel::calls::search` meets its contract. By what its gate said. Assumes nothing.
 use borrow.Author.Needs.{needs}
+use Rattle.funnel.specs.CallLaws.{passed-valid, search-refused, search-passed}
 use Rattle.funnel.proofs.calls.search.Statement.{statement}
 use Rattle.funnel.proofs.calls.search.Tie as tie
-use Rattle.funnel.proofs.calls.search.Reads as reads
-use Rattle.funnel.proofs.calls.search.Lts as lts
-use Rattle.funnel.proofs.calls.table_gate.Reads as table-gate-reads
-use Rattle.funnel.proofs.search.find.Reads as find-reads
 
--- src/calls.rt:57:11
 table-gate-requires : tie.Need-table-gate-requires
 table-gate-requires c κs = search needs
 
--- src/calls.rt:58:24
 enum-known-g : tie.Need-enum-known-g
 enum-known-g c = search needs
 
--- src/calls.rt:59:46
 enum-told : tie.Need-enum-told
 enum-told c = search needs
 
--- src/calls.rt:59:46
 find-requires : tie.Need-find-requires
 find-requires c κs = passed-valid _ _ _ _ _ (c .before .before .table-gate .ensures) (c .enum-told .given .1)
 
--- src/calls.rt:48:1
 returns : tie.Need-returns
 returns c = search-refused _ _ _ _ _ (c .before .before .before .table-gate .ensures) _ _ (c .before .g .given .1)
 
--- src/calls.rt:48:1
 returns-2 : tie.Need-returns-2
 returns-2 c = search-passed _ _ _ _ _ (c .before .before .before .table-gate .ensures) _ _ (c .before .enum-told .given .1) (c .find .ensures)
 

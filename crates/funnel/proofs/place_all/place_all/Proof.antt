@@ -1,18 +1,12 @@
-use Rattle.funnel.specs.PlaceLaws.{placing-lengths}
+-- `funnel::place_all::place_all` meets its contract. The invariant: the placement of what is left gives what the whole gives, and the table is valid. Assumes nothing.
 use Prim.Native.Nat.{_-_}
-use mathlib.Core.Path.{sym, _∙_}
 use native.Mathlib.Omega.{arith}
 use lib.ListN.{length}
 use borrow.Author.Needs.{needs}
-use Rattle.funnel.specs.PlaceLaws.{Placing, placing-none, placing-inserted, placing-duplicate, placing-range, placing-exhausted, placing-full, placing-all, placed-table, valid-after}
 use Rattle.geometry.specs.FunnelLaws.{plan-facts}
+use Rattle.funnel.specs.PlaceLaws.{placing-lengths, Placing, placing-none, placing-inserted, placing-duplicate, placing-range, placing-exhausted, placing-full, placing-all, placed-table}
 use Rattle.funnel.proofs.place_all.place_all.Statement.{statement}
 use Rattle.funnel.proofs.place_all.place_all.Tie as tie
-use Rattle.funnel.proofs.place_all.place_all.Reads as reads
-use Rattle.funnel.proofs.place_all.place_all.Lts as lts
-use Rattle.funnel.proofs.insert.put.Reads as put-reads
-use Rattle.funnel.proofs.insert.slot_of.Reads as slot-of-reads
-use Rattle.funnel.proofs.place_all.with_count.Reads as with-count-reads
 
 abbrev Inv-loop : tie.InvT-loop
 Inv-loop table counts words₀ flags₀ identities slots₀ count₀ i₀ words flags slots count i = Placing table counts words₀ flags₀ identities slots₀ words flags slots count i
@@ -20,171 +14,129 @@ Inv-loop table counts words₀ flags₀ identities slots₀ count₀ i₀ words 
 abbrev μ-loop : tie.MeasureT-loop
 μ-loop table counts words₀ flags₀ identities slots₀ count₀ i₀ words flags slots count i = length identities - i
 
--- src/place_all.rt:24:5
 loop-holds : tie.Need-loop-holds Inv-loop μ-loop
 loop-holds c = placing-none _ _ _ _ _ _ (c .before .before .before .before .pre .0) (c .before .before .before .before .pre .1)
 
--- src/place_all.rt:25:24
 mul-identity : tie.Need-mul-identity Inv-loop μ-loop
 mul-identity c = search needs
 
--- src/place_all.rt:25:24
 shared-slice-read-identity : tie.Need-shared-slice-read-identity Inv-loop μ-loop
 shared-slice-read-identity c = search needs
 
--- src/place_all.rt:26:15
 put-requires : tie.Need-put-requires Inv-loop μ-loop
 put-requires c κs = (c .before .before .before .before .loop .inv .valid, c .before .before .before .before .loop .inv .most)
 
--- src/place_all.rt:27:46
 enum-known-place : tie.Need-enum-known-place Inv-loop μ-loop
 enum-known-place c = search needs
 
--- src/place_all.rt:28:28
 slot-of-requires : tie.Need-slot-of-requires Inv-loop μ-loop
 slot-of-requires c κs = search needs
 
--- src/place_all.rt:28:17
 mul-slots : tie.Need-mul-slots Inv-loop μ-loop
 mul-slots c = search needs
 
--- src/place_all.rt:28:17
 slice-write-slots : tie.Need-slice-write-slots Inv-loop μ-loop
 slice-write-slots c = let p = c .before .before .before .before .before .before .before .before .before .before .before .before .before .loop .inv in let l = c .before .before .before .before .before .before .before .before .before .before .before .before .loop-test .taken in omega arith
 
--- src/place_all.rt:29:17
 add-count : tie.Need-add-count Inv-loop μ-loop
 add-count c = let p = placing-inserted _ _ _ _ _ _ (c .before .before .before .before .before .before .before .before .before .before .before .before .before .loop .inv) (c .before .before .before .before .before .before .before .before .before .before .before .before .loop-test .taken) _ _ _ (c .before .before .before .before .before .before .before .before .put .ensures) _ _ _ (c .before .before .place .given .1) (c .slot-of .ensures) .0 in let f = plan-facts (c .before .before .before .before .before .before .before .before .before .before .before .before .before .loop .inv .valid .planned) in omega arith
 
--- src/place_all.rt:30:17
 add-i : tie.Need-add-i Inv-loop μ-loop
 add-i c = let l = c .before .before .before .before .before .before .before .before .before .before .before .before .loop-test .taken in omega arith
 
--- src/place_all.rt:24:5
 loop-less : tie.Need-loop-less Inv-loop μ-loop
 loop-less c = let l = c .before .before .before .before .before .before .before .before .before .before .before .before .loop-test .taken in omega arith
 
--- src/place_all.rt:24:5
 loop-again : tie.Need-loop-again Inv-loop μ-loop
 loop-again c = placing-inserted _ _ _ _ _ _ (c .before .before .before .before .before .before .before .before .before .before .before .before .before .loop .inv) (c .before .before .before .before .before .before .before .before .before .before .before .before .loop-test .taken) _ _ _ (c .before .before .before .before .before .before .before .before .put .ensures) _ _ _ (c .before .before .place .given .1) (c .slot-of .ensures) .1
 
--- src/place_all.rt:32:47
 enum-known-place-2 : tie.Need-enum-known-place-2 Inv-loop μ-loop
 enum-known-place-2 c = search needs
 
--- src/place_all.rt:33:28
 slot-of-requires-2 : tie.Need-slot-of-requires-2 Inv-loop μ-loop
 slot-of-requires-2 c κs = search needs
 
--- src/place_all.rt:33:17
 mul-slots-2 : tie.Need-mul-slots-2 Inv-loop μ-loop
 mul-slots-2 c = search needs
 
--- src/place_all.rt:33:17
 slice-write-slots-2 : tie.Need-slice-write-slots-2 Inv-loop μ-loop
 slice-write-slots-2 c = let p = c .before .before .before .before .before .before .before .before .before .before .before .before .before .loop .inv in let l = c .before .before .before .before .before .before .before .before .before .before .before .before .loop-test .taken in omega arith
 
--- src/place_all.rt:34:17
 add-i-2 : tie.Need-add-i-2 Inv-loop μ-loop
 add-i-2 c = let l = c .before .before .before .before .before .before .before .before .before .before .before .before .loop-test .taken in omega arith
 
--- src/place_all.rt:24:5
 loop-less-2 : tie.Need-loop-less-2 Inv-loop μ-loop
 loop-less-2 c = let l = c .before .before .before .before .before .before .before .before .before .before .before .before .loop-test .taken in omega arith
 
--- src/place_all.rt:24:5
 loop-again-2 : tie.Need-loop-again-2 Inv-loop μ-loop
 loop-again-2 c = placing-duplicate _ _ _ _ _ _ (c .before .before .before .before .before .before .before .before .before .before .before .before .before .loop .inv) (c .before .before .before .before .before .before .before .before .before .before .before .before .loop-test .taken) _ _ _ (c .before .before .before .before .before .before .before .before .put .ensures) _ _ _ (c .before .before .place2 .given .1) (c .slot-of2 .ensures)
 
--- src/place_all.rt:36:30
 enum-known-refusal : tie.Need-enum-known-refusal Inv-loop μ-loop
 enum-known-refusal c = search needs
 
--- src/place_all.rt:40:28
 with-count-requires : tie.Need-with-count-requires Inv-loop μ-loop
 with-count-requires c κs = search needs
 
--- src/place_all.rt:38:17
 same-length : tie.Need-same-length Inv-loop μ-loop
 same-length c = placing-lengths _ _ _ _ _ _ (c .before .before .before .before .before .before .before .before .before .before .before .before .before .loop .inv) (c .before .before .before .before .before .before .before .before .before .before .before .before .loop-test .taken) _ _ _ (c .before .before .before .before .before .before .before .before .put .ensures) .0
 
--- src/place_all.rt:38:17
 same-length-2 : tie.Need-same-length-2 Inv-loop μ-loop
 same-length-2 c = placing-lengths _ _ _ _ _ _ (c .before .before .before .before .before .before .before .before .before .before .before .before .before .loop .inv) (c .before .before .before .before .before .before .before .before .before .before .before .before .loop-test .taken) _ _ _ (c .before .before .before .before .before .before .before .before .put .ensures) .1
 
--- src/place_all.rt:38:17
 same-length-3 : tie.Need-same-length-3 Inv-loop μ-loop
 same-length-3 c = c .before .before .before .before .before .before .before .before .before .before .before .before .before .loop .inv .same-slots
 
--- src/place_all.rt:38:17
 returns : tie.Need-returns Inv-loop μ-loop
 returns c = placed-table _ _ _ _ _ _ _ (c .with-count .ensures) (placing-range _ _ _ _ _ _ (c .before .before .before .before .before .before .before .before .before .before .before .before .before .loop .inv) (c .before .before .before .before .before .before .before .before .before .before .before .before .loop-test .taken) _ _ _ (c .before .before .before .before .before .before .before .before .put .ensures) _ (c .before .before .refusal .given .1))
 
--- src/place_all.rt:43:36
 enum-known-probes : tie.Need-enum-known-probes Inv-loop μ-loop
 enum-known-probes c = search needs
 
--- src/place_all.rt:47:28
 with-count-requires-2 : tie.Need-with-count-requires-2 Inv-loop μ-loop
 with-count-requires-2 c κs = search needs
 
--- src/place_all.rt:45:17
 same-length-4 : tie.Need-same-length-4 Inv-loop μ-loop
 same-length-4 c = placing-lengths _ _ _ _ _ _ (c .before .before .before .before .before .before .before .before .before .before .before .before .before .loop .inv) (c .before .before .before .before .before .before .before .before .before .before .before .before .loop-test .taken) _ _ _ (c .before .before .before .before .before .before .before .before .put .ensures) .0
 
--- src/place_all.rt:45:17
 same-length-5 : tie.Need-same-length-5 Inv-loop μ-loop
 same-length-5 c = placing-lengths _ _ _ _ _ _ (c .before .before .before .before .before .before .before .before .before .before .before .before .before .loop .inv) (c .before .before .before .before .before .before .before .before .before .before .before .before .loop-test .taken) _ _ _ (c .before .before .before .before .before .before .before .before .put .ensures) .1
 
--- src/place_all.rt:45:17
 same-length-6 : tie.Need-same-length-6 Inv-loop μ-loop
 same-length-6 c = c .before .before .before .before .before .before .before .before .before .before .before .before .before .loop .inv .same-slots
 
--- src/place_all.rt:45:17
 returns-2 : tie.Need-returns-2 Inv-loop μ-loop
 returns-2 c = placed-table _ _ _ _ _ _ _ (c .with-count2 .ensures) (placing-exhausted _ _ _ _ _ _ (c .before .before .before .before .before .before .before .before .before .before .before .before .before .loop .inv) (c .before .before .before .before .before .before .before .before .before .before .before .before .loop-test .taken) _ _ _ (c .before .before .before .before .before .before .before .before .put .ensures) _ (c .before .before .probes .given .1))
 
--- src/place_all.rt:50:31
 enum-known-probes-2 : tie.Need-enum-known-probes-2 Inv-loop μ-loop
 enum-known-probes-2 c = search needs
 
--- src/place_all.rt:54:28
 with-count-requires-3 : tie.Need-with-count-requires-3 Inv-loop μ-loop
 with-count-requires-3 c κs = search needs
 
--- src/place_all.rt:52:17
 same-length-7 : tie.Need-same-length-7 Inv-loop μ-loop
 same-length-7 c = placing-lengths _ _ _ _ _ _ (c .before .before .before .before .before .before .before .before .before .before .before .before .before .loop .inv) (c .before .before .before .before .before .before .before .before .before .before .before .before .loop-test .taken) _ _ _ (c .before .before .before .before .before .before .before .before .put .ensures) .0
 
--- src/place_all.rt:52:17
 same-length-8 : tie.Need-same-length-8 Inv-loop μ-loop
 same-length-8 c = placing-lengths _ _ _ _ _ _ (c .before .before .before .before .before .before .before .before .before .before .before .before .before .loop .inv) (c .before .before .before .before .before .before .before .before .before .before .before .before .loop-test .taken) _ _ _ (c .before .before .before .before .before .before .before .before .put .ensures) .1
 
--- src/place_all.rt:52:17
 same-length-9 : tie.Need-same-length-9 Inv-loop μ-loop
 same-length-9 c = c .before .before .before .before .before .before .before .before .before .before .before .before .before .loop .inv .same-slots
 
--- src/place_all.rt:52:17
 returns-3 : tie.Need-returns-3 Inv-loop μ-loop
 returns-3 c = placed-table _ _ _ _ _ _ _ (c .with-count3 .ensures) (placing-full _ _ _ _ _ _ (c .before .before .before .before .before .before .before .before .before .before .before .before .before .loop .inv) (c .before .before .before .before .before .before .before .before .before .before .before .before .loop-test .taken) _ _ _ (c .before .before .before .before .before .before .before .before .put .ensures) _ (c .before .before .probes2 .given .1))
 
--- src/place_all.rt:61:16
 with-count-requires-4 : tie.Need-with-count-requires-4 Inv-loop μ-loop
 with-count-requires-4 c κs = search needs
 
--- src/place_all.rt:11:1
 same-length-10 : tie.Need-same-length-10 Inv-loop μ-loop
 same-length-10 c = c .before .before .loop .inv .same-words
 
--- src/place_all.rt:11:1
 same-length-11 : tie.Need-same-length-11 Inv-loop μ-loop
 same-length-11 c = c .before .before .loop .inv .same-flags
 
--- src/place_all.rt:11:1
 same-length-12 : tie.Need-same-length-12 Inv-loop μ-loop
 same-length-12 c = c .before .before .loop .inv .same-slots
 
--- src/place_all.rt:11:1
 returns-4 : tie.Need-returns-4 Inv-loop μ-loop
 returns-4 c = placed-table _ _ _ _ _ _ _ (c .with-count4 .ensures) (placing-all _ _ _ _ _ _ (c .before .before .loop .inv) (c .before .loop-test .left))
 

@@ -1,43 +1,33 @@
-use Rattle.funnel.specs.StageLaws.{read-vacant, read-hit, read-other}
+-- `funnel::scan::read` meets its contract. By the laws of one reading. Assumes nothing.
 use borrow.Author.Needs.{needs}
+use Rattle.funnel.specs.StageLaws.{read-vacant, read-hit, read-other}
 use Rattle.funnel.proofs.scan.read.Statement.{statement}
 use Rattle.funnel.proofs.scan.read.Tie as tie
-use Rattle.funnel.proofs.scan.read.Reads as reads
-use Rattle.funnel.proofs.scan.read.Lts as lts
 
--- src/scan.rt:62:8
 shared-slice-read-if1 : tie.Need-shared-slice-read-if1
 shared-slice-read-if1 c = search needs
 
--- src/scan.rt:64:21
 add-t11 : tie.Need-add-t11
 add-t11 c = search needs
 
--- src/scan.rt:63:9
 returns : tie.Need-returns
 returns c = read-vacant _ _ _ _ _ _ (c .before .before .pre .0) (c .if1 .taken)
 
--- src/scan.rt:68:8
 mul-if2 : tie.Need-mul-if2
 mul-if2 c = search needs
 
--- src/scan.rt:68:8
 shared-slice-read-if2 : tie.Need-shared-slice-read-if2
 shared-slice-read-if2 c = search needs
 
--- src/scan.rt:70:21
 add-t15 : tie.Need-add-t15
 add-t15 c = search needs
 
--- src/scan.rt:69:9
 returns-2 : tie.Need-returns-2
 returns-2 c = read-hit _ _ _ _ _ _ (c .before .before .before .before .pre .0) (c .before .before .if1 .left) (c .if2 .taken)
 
--- src/scan.rt:74:28
 add-t14 : tie.Need-add-t14
 add-t14 c = search needs
 
--- src/scan.rt:57:1
 returns-3 : tie.Need-returns-3
 returns-3 c = read-other _ _ _ _ _ _ (c .before .before .before .before .pre .0) (c .before .before .if1 .left) (c .if2 .left)
 

@@ -1,3 +1,4 @@
+-- `funnel::scan::scan_pairs` meets its contract. The invariant: what is left of the two buckets gives what both give, and two probes were made for each slot passed. Assumes nothing.
 use Prim.Native.Nat.{_+_, _*_, _-_, _≤_}
 use mathlib.Core.Path.{_≡_, sym, _∙_, ap, refl}
 use native.Mathlib.Omega.{arith}
@@ -7,9 +8,6 @@ use Rattle.funnel.specs.StageLaws.{read-full, PairsLeft, pairs-none, pai
 use Rattle.funnel.proofs.Stays.{stays}
 use Rattle.funnel.proofs.scan.scan_pairs.Statement.{statement}
 use Rattle.funnel.proofs.scan.scan_pairs.Tie as tie
-use Rattle.funnel.proofs.scan.scan_pairs.Reads as reads
-use Rattle.funnel.proofs.scan.scan_pairs.Lts as lts
-use Rattle.funnel.proofs.scan.read.Reads as read-reads
 
 abbrev Inv-loop : tie.InvT-loop
 Inv-loop words flags identity a b at-a at-b w probes i₀ made₀ i made = (i ≤ w) × (made ≡ probes + 2 * i) × PairsLeft words flags identity a b at-a at-b w probes i made
@@ -17,58 +15,45 @@ Inv-loop words flags identity a b at-a at-b w probes i₀ made₀ i made = (i �
 abbrev μ-loop : tie.MeasureT-loop
 μ-loop words flags identity a b at-a at-b w probes i₀ made₀ i made = w - i
 
--- src/scan.rt:94:5
 loop-holds : tie.Need-loop-holds Inv-loop μ-loop
 loop-holds c = (omega arith, omega arith, pairs-none _ _ _ _ _ _ _ _ _)
 
--- src/scan.rt:95:21
 add-first : tie.Need-add-first Inv-loop μ-loop
 add-first c = omega arith
 
--- src/scan.rt:101:13
 read-requires : tie.Need-read-requires Inv-loop μ-loop
 read-requires c κs = (refl, omega arith, omega arith, omega arith)
 
--- src/scan.rt:102:36
 enum-known-found-a : tie.Need-enum-known-found-a Inv-loop μ-loop
 enum-known-found-a c = search needs
 
--- src/scan.rt:103:13
 returns : tie.Need-returns Inv-loop μ-loop
 returns c = stays _ _ _ _ _ (c .match .keys2) ∙ sym (pairs-a _ _ _ _ _ _ _ _ _ (c .before .before .before .loop .inv .2) _ (c .before .before .loop-test .taken) (c .before .read .ensures))
 
--- src/scan.rt:105:22
 add-second : tie.Need-add-second Inv-loop μ-loop
 add-second c = omega arith
 
--- src/scan.rt:111:13
 read-requires-2 : tie.Need-read-requires-2 Inv-loop μ-loop
 read-requires-2 c κs = let j = read-full _ _ _ _ _ _ _ (c .before .before .before .read .ensures) (c .before .found-a .given .1) in (refl, omega arith, omega arith, omega arith)
 
--- src/scan.rt:112:36
 enum-known-found-b : tie.Need-enum-known-found-b Inv-loop μ-loop
 enum-known-found-b c = search needs
 
--- src/scan.rt:113:13
 returns-2 : tie.Need-returns-2 Inv-loop μ-loop
 returns-2 c = stays _ _ _ _ _ (c .match2 .keys2) ∙ sym (pairs-b _ _ _ _ _ _ _ _ _ (c .before .before .before .before .before .before .before .loop .inv .2) _ _ _ (c .before .before .before .before .before .before .loop-test .taken) (c .before .before .before .before .before .read .ensures) (c .before .before .before .found-a .given .1) (c .before .read2 .ensures))
 
--- src/scan.rt:116:9
 add-i : tie.Need-add-i Inv-loop μ-loop
 add-i c = omega arith
 
--- src/scan.rt:94:5
 loop-less : tie.Need-loop-less Inv-loop μ-loop
 loop-less c = omega arith
 
--- src/scan.rt:94:5
 loop-again : tie.Need-loop-again Inv-loop μ-loop
 unfolding resume
 loop-again c = let j = read-full _ _ _ _ _ _ _ (c .before .before .before .before .before .before .before .read .ensures) (c .before .before .before .before .before .found-a .given .1) in
     let m = read-full _ _ _ _ _ _ _ (c .before .before .before .read2 .ensures) (c .before .found-b .given .1) in
     (omega arith, omega arith, record { left = pairs-b _ _ _ _ _ _ _ _ _ (c .before .before .before .before .before .before .before .before .before .loop .inv .2) _ _ _ (c .before .before .before .before .before .before .before .before .loop-test .taken) (c .before .before .before .before .before .before .before .read .ensures) (c .before .before .before .before .before .found-a .given .1) (c .before .before .before .read2 .ensures) ∙ ap (resume _ _ _ _) (c .before .found-b .given .1) })
 
--- src/scan.rt:78:1
 returns-3 : tie.Need-returns-3 Inv-loop μ-loop
 returns-3 c = pairs-end _ _ _ _ _ _ _ _ _ (c .before .loop .inv .2) (c .loop-test .left)
 

@@ -1,59 +1,43 @@
+-- `funnel::search::find` meets its contract. The three stages, each resumed where the one before met no vacancy. Assumes nothing.
 use mathlib.Core.Path.{sym, _∙_}
 use native.Mathlib.Omega.{arith}
+use borrow.Author.Needs.{needs}
 use Rattle.geometry.specs.FunnelLaws.{plan-facts}
 use Rattle.funnel.specs.FindLaws.{find-levels, primary-ready, find-primary, fallback-ready, find-fallback}
 use Rattle.funnel.proofs.Stays.{stays}
-use borrow.Author.Needs.{needs}
 use Rattle.funnel.proofs.search.find.Statement.{statement}
 use Rattle.funnel.proofs.search.find.Tie as tie
-use Rattle.funnel.proofs.search.find.Reads as reads
-use Rattle.funnel.proofs.search.find.Lts as lts
-use Rattle.funnel.proofs.search.search_fallback.Reads as search-fallback-reads
-use Rattle.funnel.proofs.search.search_levels.Reads as search-levels-reads
-use Rattle.funnel.proofs.search.search_primary.Reads as search-primary-reads
-use Rattle.probe.proofs.word.funnel_key.Reads as funnel-key-reads
 
--- src/search.rt:28:9
 funnel-key-requires : tie.Need-funnel-key-requires
 funnel-key-requires c κs = search needs
 
--- src/search.rt:29:9
 search-levels-requires : tie.Need-search-levels-requires
 search-levels-requires c κs = search needs
 
--- src/search.rt:30:32
 enum-known-ordinary : tie.Need-enum-known-ordinary
 enum-known-ordinary c = search needs
 
--- src/search.rt:31:9
 returns : tie.Need-returns
 returns c = stays _ _ _ _ _ (c .match .keys2) ∙ sym (find-levels _ _ _ _ _ _ (c .before .search-levels .ensures))
 
--- src/search.rt:33:25
 sub-primary-start : tie.Need-sub-primary-start
 sub-primary-start c = let f = plan-facts (c .before .before .before .before .before .before .before .before .pre .planned) in omega arith
 
--- src/search.rt:34:9
 search-primary-requires : tie.Need-search-primary-requires
 search-primary-requires c κs = (primary-ready _ _ _ _ _ _ (c .before .before .before .before .search-levels .ensures) (c .before .before .before .before .before .before .before .before .pre) _ (c .before .before .ordinary .given .1), record { is-inner = c .before .before .before .before .before .funnel-key .ensures .0; is-outer = c .before .before .before .before .before .funnel-key .ensures .1 })
 
--- src/search.rt:35:32
 enum-known-primary : tie.Need-enum-known-primary
 enum-known-primary c = search needs
 
--- src/search.rt:36:9
 returns-2 : tie.Need-returns-2
 returns-2 c = stays _ _ _ _ _ (c .match2 .keys2) ∙ sym (find-primary _ _ _ _ _ _ (c .before .before .before .before .before .before .search-levels .ensures) (c .before .before .before .before .before .before .before .before .before .before .pre) _ (c .before .before .before .before .ordinary .given .1) _ (c .before .search-primary .ensures))
 
--- src/search.rt:38:26
 add-fallback-start : tie.Need-add-fallback-start
 add-fallback-start c = let f = plan-facts (c .before .before .before .before .before .before .before .before .before .before .before .before .before .pre .planned) in omega arith
 
--- src/search.rt:39:5
 search-fallback-requires : tie.Need-search-fallback-requires
 search-fallback-requires c κs = (fallback-ready _ _ _ _ _ _ (c .before .before .before .before .before .before .before .before .before .search-levels .ensures) (c .before .before .before .before .before .before .before .before .before .before .before .before .before .pre) _ (c .before .before .before .before .before .before .before .ordinary .given .1) _ (c .before .before .before .before .search-primary .ensures) _ (c .before .before .primary .given .1), record { is-inner = c .before .before .before .before .before .before .before .before .before .before .funnel-key .ensures .0; is-outer = c .before .before .before .before .before .before .before .before .before .before .funnel-key .ensures .1 })
 
--- src/search.rt:18:1
 returns-3 : tie.Need-returns-3
 returns-3 c = find-fallback _ _ _ _ _ _ (c .before .before .before .before .before .before .before .before .before .before .search-levels .ensures) (c .before .before .before .before .before .before .before .before .before .before .before .before .before .before .pre) _ (c .before .before .before .before .before .before .before .before .ordinary .given .1) _ (c .before .before .before .before .before .search-primary .ensures) _ (c .before .before .before .primary .given .1) _ (c .search-fallback .ensures)
 

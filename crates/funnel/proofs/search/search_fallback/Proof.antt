@@ -1,40 +1,30 @@
-use mathlib.Core.Path.{sym, _∙_, refl}
+-- `funnel::search::search_fallback` meets its contract. By the laws of the two draws. Assumes nothing.
+use mathlib.Core.Path.{_∙_}
 use native.Mathlib.Omega.{arith}
+use borrow.Author.Needs.{needs}
 use Rattle.funnel.specs.PlanLaws.{part-room}
 use Rattle.funnel.specs.StageLaws.{drew, drew-below, fallback-refused-a, fallback-refused-b, fallback-both}
-use borrow.Author.Needs.{needs}
 use Rattle.funnel.proofs.search.search_fallback.Statement.{statement}
 use Rattle.funnel.proofs.search.search_fallback.Tie as tie
-use Rattle.funnel.proofs.search.search_fallback.Reads as reads
-use Rattle.funnel.proofs.search.search_fallback.Lts as lts
-use Rattle.funnel.proofs.scan.scan_pairs.Reads as scan-pairs-reads
-use Rattle.funnel.proofs.search.sample.Reads as sample-reads
 
--- src/search.rt:138:11
 sample-requires : tie.Need-sample-requires
 sample-requires c κs = search needs
 
--- src/search.rt:139:24
 enum-known-refusal : tie.Need-enum-known-refusal
 enum-known-refusal c = search needs
 
--- src/search.rt:140:31
 enum-known-a : tie.Need-enum-known-a
 enum-known-a c = search needs
 
--- src/search.rt:141:19
 sample-requires-2 : tie.Need-sample-requires-2
 sample-requires-2 c κs = search needs
 
--- src/search.rt:142:32
 enum-known-refusal-2 : tie.Need-enum-known-refusal-2
 enum-known-refusal-2 c = search needs
 
--- src/search.rt:143:39
 enum-known-b : tie.Need-enum-known-b
 enum-known-b c = search needs
 
--- src/search.rt:144:40
 mul-at-a : tie.Need-mul-at-a
 mul-at-a c = let p = c .before .before .before .before .before .before .before .before .before .before .pre .0 in
     let a = drew-below _ _ _ _ _ (p .fallback) (c .before .before .before .before .before .before .before .sample .ensures) (c .before .before .before .before .before .a .given .1) in
@@ -43,7 +33,6 @@ mul-at-a c = let p = c .before .before .before .before .before .before .before .
     let v = part-room _ _ (c .before .before .before .before .before .before .before .before .before .before .args .table .plan .«fallback_bucket_width») b in
     omega arith
 
--- src/search.rt:144:32
 add-at-a : tie.Need-add-at-a
 add-at-a c = let p = c .before .before .before .before .before .before .before .before .before .before .pre .0 in
     let a = drew-below _ _ _ _ _ (p .fallback) (c .before .before .before .before .before .before .before .sample .ensures) (c .before .before .before .before .before .a .given .1) in
@@ -52,7 +41,6 @@ add-at-a c = let p = c .before .before .before .before .before .before .before .
     let v = part-room _ _ (c .before .before .before .before .before .before .before .before .before .before .args .table .plan .«fallback_bucket_width») b in
     omega arith
 
--- src/search.rt:145:40
 mul-at-b : tie.Need-mul-at-b
 mul-at-b c = let p = c .before .before .before .before .before .before .before .before .before .before .pre .0 in
     let a = drew-below _ _ _ _ _ (p .fallback) (c .before .before .before .before .before .before .before .sample .ensures) (c .before .before .before .before .before .a .given .1) in
@@ -61,7 +49,6 @@ mul-at-b c = let p = c .before .before .before .before .before .before .before .
     let v = part-room _ _ (c .before .before .before .before .before .before .before .before .before .before .args .table .plan .«fallback_bucket_width») b in
     omega arith
 
--- src/search.rt:145:32
 add-at-b : tie.Need-add-at-b
 add-at-b c = let p = c .before .before .before .before .before .before .before .before .before .before .pre .0 in
     let a = drew-below _ _ _ _ _ (p .fallback) (c .before .before .before .before .before .before .before .sample .ensures) (c .before .before .before .before .before .a .given .1) in
@@ -70,7 +57,6 @@ add-at-b c = let p = c .before .before .before .before .before .before .before .
     let v = part-room _ _ (c .before .before .before .before .before .before .before .before .before .before .args .table .plan .«fallback_bucket_width») b in
     omega arith
 
--- src/search.rt:146:21
 scan-pairs-requires : tie.Need-scan-pairs-requires
 scan-pairs-requires c κs = let p = c .before .before .before .before .before .before .before .before .before .before .pre .0 in
     let a = drew-below _ _ _ _ _ (p .fallback) (c .before .before .before .before .before .before .before .sample .ensures) (c .before .before .before .before .before .a .given .1) in
@@ -79,15 +65,12 @@ scan-pairs-requires c κs = let p = c .before .before .before .before .before .b
     let v = part-room _ _ (c .before .before .before .before .before .before .before .before .before .before .args .table .plan .«fallback_bucket_width») b in
     omega arith
 
--- src/search.rt:123:1
 returns : tie.Need-returns
 returns c = fallback-refused-a _ _ _ _ _ _ _ _ _ (drew (c .before .before .before .before .before .before .pre .1) _ _ _ _ _ _ (c .before .before .before .sample .ensures) (c .before .refusal .given .1))
 
--- src/search.rt:123:1
 returns-2 : tie.Need-returns-2
 returns-2 c = fallback-refused-b _ _ _ _ _ _ _ _ _ _ _ (drew (c .before .before .before .before .before .before .before .before .before .before .pre .1) _ _ _ _ _ _ (c .before .before .before .before .before .before .before .sample .ensures) (c .before .before .before .before .before .a .given .1)) (drew (c .before .before .before .before .before .before .before .before .before .before .pre .1) _ _ _ _ _ _ (c .before .before .before .sample2 .ensures) (c .before .refusal2 .given .1))
 
--- src/search.rt:123:1
 returns-3 : tie.Need-returns-3
 returns-3 c = c .scan-pairs .ensures ∙ fallback-both _ _ _ _ _ _ _ _ _ _ _ _ (drew (c .before .before .before .before .before .before .before .before .before .before .before .pre .1) _ _ _ _ _ _ (c .before .before .before .before .before .before .before .before .sample .ensures) (c .before .before .before .before .before .before .a .given .1)) (drew (c .before .before .before .before .before .before .before .before .before .before .before .pre .1) _ _ _ _ _ _ (c .before .before .before .before .sample2 .ensures) (c .before .before .b .given .1))
 

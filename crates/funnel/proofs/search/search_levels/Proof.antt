@@ -1,20 +1,17 @@
-use Rattle.funnel.proofs.Stays.{stays}
-use denote.Ref.{now}
+-- `funnel::search::search_levels` meets its contract. The invariant: the levels that are left give what all give, `start` is where the next begins, and no level takes more than 54 probes. Assumes nothing.
 use Prim.Native.Nat.{_-_, _≤_, _*_}
-use mathlib.Core.Path.{_≡_, sym, _∙_, ap, refl}
+use mathlib.Core.Path.{_≡_, sym, _∙_, ap}
 use native.Mathlib.Omega.{arith}
 use borrow.Author.Needs.{needs}
+use denote.Ref.{now}
 use Rattle.geometry.specs.FunnelLaws.{plan-facts}
 use Rattle.funnel.specs.Path.{levelStart}
 use Rattle.funnel.specs.SearchLaws.{resume}
 use Rattle.funnel.specs.PlanLaws.{level-none, level-room, bucket-room}
 use Rattle.funnel.specs.StageLaws.{drew, drew-below, LevelsLeft, levels-none, levels-refused, levels-found, levels-end, bucket-full}
+use Rattle.funnel.proofs.Stays.{stays}
 use Rattle.funnel.proofs.search.search_levels.Statement.{statement}
 use Rattle.funnel.proofs.search.search_levels.Tie as tie
-use Rattle.funnel.proofs.search.search_levels.Reads as reads
-use Rattle.funnel.proofs.search.search_levels.Lts as lts
-use Rattle.funnel.proofs.scan.scan.Reads as scan-reads
-use Rattle.funnel.proofs.search.sample.Reads as sample-reads
 
 abbrev Inv-loop : tie.InvT-loop
 Inv-loop table counts words flags identity key alpha beta level₀ start₀ probes₀ level start probes = (level ≤ alpha) × (start ≡ levelStart (table .plan) counts level) × (probes ≤ level * 54) × LevelsLeft (table .plan) counts words flags (table .seed) (table .«word_cap») identity level probes
@@ -22,49 +19,39 @@ Inv-loop table counts words flags identity key alpha beta level₀ start₀ prob
 abbrev μ-loop : tie.MeasureT-loop
 μ-loop table counts words flags identity key alpha beta level₀ start₀ probes₀ level start probes = alpha - level
 
--- src/search.rt:32:5
 loop-holds : tie.Need-loop-holds Inv-loop μ-loop
 loop-holds c = (omega arith, level-none (c .before .before .args .table .plan) (now (c .before .before .args .counts)), omega arith, levels-none _ _ _ _ _ _ _)
 
--- src/search.rt:33:21
 mul-count : tie.Need-mul-count Inv-loop μ-loop
 mul-count c = search needs
 
--- src/search.rt:33:21
 element-copy-out-count : tie.Need-element-copy-out-count Inv-loop μ-loop
 element-copy-out-count c = let f = plan-facts (c .before .before .before .before .pre .0 .planned) in omega arith
 
--- src/search.rt:35:15
 sample-requires : tie.Need-sample-requires Inv-loop μ-loop
 sample-requires c κs = let f = plan-facts (c .before .before .before .before .before .pre .0 .planned) in let r = level-room (c .before .before .before .before .before .pre .0 .planned) _ (c .before .loop-test .taken) in let v = c .before .before .before .before .before .pre .0 in omega arith
 
--- src/search.rt:36:28
 enum-known-refusal : tie.Need-enum-known-refusal Inv-loop μ-loop
 enum-known-refusal c = search needs
 
--- src/search.rt:37:17
 returns : tie.Need-returns Inv-loop μ-loop
 returns c = levels-refused _ _ _ _ _ _ _ (c .before .before .before .before .before .before .loop .inv .3) _ (c .before .before .before .before .before .loop-test .taken) (drew (c .before .before .before .before .before .before .before .before .before .pre .1) _ _ _ _ _ _ (c .before .before .before .sample .ensures) (c .before .refusal .given .1))
 
--- src/search.rt:39:28
 enum-known-index : tie.Need-enum-known-index Inv-loop μ-loop
 enum-known-index c = search needs
 
--- src/search.rt:40:80
 mul-from : tie.Need-mul-from Inv-loop μ-loop
 mul-from c = let d = drew-below _ _ _ _ _ (level-room (c .before .before .before .before .before .before .before .before .before .pre .0 .planned) _ (c .before .before .before .before .before .loop-test .taken) .some) (c .before .before .before .sample .ensures) (c .before .index .given .1) in
     let b = bucket-room (c .before .before .before .before .before .before .before .before .before .pre .0 .planned) _ _ (c .before .before .before .before .before .loop-test .taken) d in
     let f = plan-facts (c .before .before .before .before .before .before .before .before .before .pre .0 .planned) in
     omega arith
 
--- src/search.rt:40:72
 add-from : tie.Need-add-from Inv-loop μ-loop
 add-from c = let d = drew-below _ _ _ _ _ (level-room (c .before .before .before .before .before .before .before .before .before .pre .0 .planned) _ (c .before .before .before .before .before .loop-test .taken) .some) (c .before .before .before .sample .ensures) (c .before .index .given .1) in
     let b = bucket-room (c .before .before .before .before .before .before .before .before .before .pre .0 .planned) _ _ (c .before .before .before .before .before .loop-test .taken) d in
     let f = plan-facts (c .before .before .before .before .before .before .before .before .before .pre .0 .planned) in
     omega arith
 
--- src/search.rt:40:21
 scan-requires : tie.Need-scan-requires Inv-loop μ-loop
 scan-requires c κs = let d = drew-below _ _ _ _ _ (level-room (c .before .before .before .before .before .before .before .before .before .pre .0 .planned) _ (c .before .before .before .before .before .loop-test .taken) .some) (c .before .before .before .sample .ensures) (c .before .index .given .1) in
     let b = bucket-room (c .before .before .before .before .before .before .before .before .before .pre .0 .planned) _ _ (c .before .before .before .before .before .loop-test .taken) d in
@@ -72,35 +59,28 @@ scan-requires c κs = let d = drew-below _ _ _ _ _ (level-room (c .before .befor
     let v = c .before .before .before .before .before .before .before .before .before .pre .0 in
     omega arith
 
--- src/search.rt:41:44
 enum-known-found : tie.Need-enum-known-found Inv-loop μ-loop
 enum-known-found c = search needs
 
--- src/search.rt:42:21
 returns-2 : tie.Need-returns-2 Inv-loop μ-loop
 returns-2 c = stays _ _ _ _ _ (c .match2 .keys2) ∙ sym (levels-found _ _ _ _ _ _ _ (c .before .before .before .before .before .before .before .before .loop .inv .3) _ _ _ _ (c .before .before .before .before .before .before .before .loop-test .taken) (c .before .before .before .before .before .before .before .before .loop .inv .1) (drew (c .before .before .before .before .before .before .before .before .before .before .before .pre .1) _ _ _ _ _ _ (c .before .before .before .before .before .sample .ensures) (c .before .before .before .index .given .1)) (c .before .scan .ensures))
 
--- src/search.rt:47:18
 mul-start : tie.Need-mul-start Inv-loop μ-loop
 mul-start c = let r = level-room (c .before .before .before .before .before .before .before .before .before .before .before .before .before .pre .0 .planned) _ (c .before .before .before .before .before .before .before .before .before .loop-test .taken) in
     let f = plan-facts (c .before .before .before .before .before .before .before .before .before .before .before .before .before .pre .0 .planned) in
     omega arith
 
--- src/search.rt:47:9
 add-start : tie.Need-add-start Inv-loop μ-loop
 add-start c = let r = level-room (c .before .before .before .before .before .before .before .before .before .before .before .before .before .pre .0 .planned) _ (c .before .before .before .before .before .before .before .before .before .loop-test .taken) in
     let f = plan-facts (c .before .before .before .before .before .before .before .before .before .before .before .before .before .pre .0 .planned) in
     omega arith
 
--- src/search.rt:48:9
 add-level : tie.Need-add-level Inv-loop μ-loop
 add-level c = let f = plan-facts (c .before .before .before .before .before .before .before .before .before .before .before .before .before .pre .0 .planned) in omega arith
 
--- src/search.rt:32:5
 loop-less : tie.Need-loop-less Inv-loop μ-loop
 loop-less c = omega arith
 
--- src/search.rt:32:5
 loop-again : tie.Need-loop-again Inv-loop μ-loop
 unfolding resume
 loop-again c = let r = level-room (c .before .before .before .before .before .before .before .before .before .before .before .before .before .pre .0 .planned) _ (c .before .before .before .before .before .before .before .before .before .loop-test .taken) in
@@ -108,7 +88,6 @@ loop-again c = let r = level-room (c .before .before .before .before .before .be
     let j = bucket-full _ _ _ _ _ _ _ _ _ _ (c .before .before .before .scan .ensures) (c .before .found .given .1) in
     (omega arith, omega arith, omega arith, record { left = levels-found _ _ _ _ _ _ _ (c .before .before .before .before .before .before .before .before .before .before .loop .inv .3) _ _ _ _ (c .before .before .before .before .before .before .before .before .before .loop-test .taken) (c .before .before .before .before .before .before .before .before .before .before .loop .inv .1) (drew (c .before .before .before .before .before .before .before .before .before .before .before .before .before .pre .1) _ _ _ _ _ _ (c .before .before .before .before .before .before .before .sample .ensures) (c .before .before .before .before .before .index .given .1)) (c .before .before .before .scan .ensures) ∙ ap (resume _ _ _ _) (c .before .found .given .1) })
 
--- src/search.rt:16:1
 returns-3 : tie.Need-returns-3 Inv-loop μ-loop
 returns-3 c = levels-end _ _ _ _ _ _ _ (c .before .loop .inv .3) (c .loop-test .left)
 

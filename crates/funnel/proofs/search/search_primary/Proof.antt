@@ -1,4 +1,5 @@
-use Prim.Native.Nat.{_+_, _*_, _-_, _≤_}
+-- `funnel::search::search_primary` meets its contract. The invariant: the probes that are left give what all give. Assumes nothing.
+use Prim.Native.Nat.{_+_, _-_, _≤_}
 use mathlib.Core.Path.{_≡_, sym, _∙_, ap, refl}
 use native.Mathlib.Omega.{arith}
 use borrow.Author.Needs.{needs}
@@ -7,10 +8,6 @@ use Rattle.funnel.specs.StageLaws.{drew, drew-below, read-full, PrimaryL
 use Rattle.funnel.proofs.Stays.{stays}
 use Rattle.funnel.proofs.search.search_primary.Statement.{statement}
 use Rattle.funnel.proofs.search.search_primary.Tie as tie
-use Rattle.funnel.proofs.search.search_primary.Reads as reads
-use Rattle.funnel.proofs.search.search_primary.Lts as lts
-use Rattle.funnel.proofs.scan.read.Reads as read-reads
-use Rattle.funnel.proofs.search.sample.Reads as sample-reads
 
 abbrev Inv-loop : tie.InvT-loop
 Inv-loop table start words flags identity key probes primary-len loglog-ceiling probe₀ made₀ probe made = (probe ≤ loglog-ceiling) × (made ≡ probes + probe) × PrimaryLeft (table .plan) start words flags (table .seed) (table .«word_cap») identity probes probe made
@@ -18,61 +15,48 @@ Inv-loop table start words flags identity key probes primary-len loglog-ceiling 
 abbrev μ-loop : tie.MeasureT-loop
 μ-loop table start words flags identity key probes primary-len loglog-ceiling probe₀ made₀ probe made = loglog-ceiling - probe
 
--- src/search.rt:98:5
 loop-holds : tie.Need-loop-holds Inv-loop μ-loop
 loop-holds c = (omega arith, omega arith, primary-none _ _ _ _ _ _ _ _)
 
--- src/search.rt:100:15
 sample-requires : tie.Need-sample-requires Inv-loop μ-loop
 sample-requires c κs = let p = c .before .before .before .before .pre .0 in omega arith
 
--- src/search.rt:101:28
 enum-known-refusal : tie.Need-enum-known-refusal Inv-loop μ-loop
 enum-known-refusal c = search needs
 
--- src/search.rt:102:17
 returns : tie.Need-returns Inv-loop μ-loop
 returns c = primary-refused _ _ _ _ _ _ _ _ (c .before .before .before .before .before .loop .inv .2) _ (c .before .before .before .before .loop-test .taken) (drew (c .before .before .before .before .before .before .before .before .pre .1) _ _ _ _ _ _ (c .before .before .before .sample .ensures) (c .before .refusal .given .1))
 
--- src/search.rt:104:28
 enum-known-index : tie.Need-enum-known-index Inv-loop μ-loop
 enum-known-index c = search needs
 
--- src/search.rt:105:26
 add-at : tie.Need-add-at Inv-loop μ-loop
 add-at c = let p = c .before .before .before .before .before .before .before .before .pre .0 in
     let d = drew-below _ _ _ _ _ (p .primary) (c .before .before .before .sample .ensures) (c .before .index .given .1) in
     omega arith
 
--- src/search.rt:110:21
 read-requires : tie.Need-read-requires Inv-loop μ-loop
 read-requires c κs = let p = c .before .before .before .before .before .before .before .before .pre .0 in
     let d = drew-below _ _ _ _ _ (p .primary) (c .before .before .before .sample .ensures) (c .before .index .given .1) in
     (refl, omega arith, omega arith, omega arith)
 
--- src/search.rt:111:44
 enum-known-found : tie.Need-enum-known-found Inv-loop μ-loop
 enum-known-found c = search needs
 
--- src/search.rt:112:21
 returns-2 : tie.Need-returns-2 Inv-loop μ-loop
 returns-2 c = stays _ _ _ _ _ (c .match2 .keys2) ∙ sym (primary-found _ _ _ _ _ _ _ _ (c .before .before .before .before .before .before .before .loop .inv .2) _ _ _ (c .before .before .before .before .before .before .loop-test .taken) (drew (c .before .before .before .before .before .before .before .before .before .before .pre .1) _ _ _ _ _ _ (c .before .before .before .before .before .sample .ensures) (c .before .before .before .index .given .1)) (c .before .read .ensures))
 
--- src/search.rt:117:9
 add-probe : tie.Need-add-probe Inv-loop μ-loop
 add-probe c = let p = c .before .before .before .before .before .before .before .before .before .before .before .before .pre .0 in omega arith
 
--- src/search.rt:98:5
 loop-less : tie.Need-loop-less Inv-loop μ-loop
 loop-less c = omega arith
 
--- src/search.rt:98:5
 loop-again : tie.Need-loop-again Inv-loop μ-loop
 unfolding resume
 loop-again c = let j = read-full _ _ _ _ _ _ _ (c .before .before .before .read .ensures) (c .before .found .given .1) in
     (omega arith, omega arith, record { left = primary-found _ _ _ _ _ _ _ _ (c .before .before .before .before .before .before .before .before .before .loop .inv .2) _ _ _ (c .before .before .before .before .before .before .before .before .loop-test .taken) (drew (c .before .before .before .before .before .before .before .before .before .before .before .before .pre .1) _ _ _ _ _ _ (c .before .before .before .before .before .before .before .sample .ensures) (c .before .before .before .before .before .index .given .1)) (c .before .before .before .read .ensures) ∙ ap (resume _ _ _ _) (c .before .found .given .1) })
 
--- src/search.rt:82:1
 returns-3 : tie.Need-returns-3 Inv-loop μ-loop
 returns-3 c = primary-end _ _ _ _ _ _ _ _ (c .before .loop .inv .2) (c .loop-test .left)
 

@@ -1,4 +1,4 @@
--- `geometry::counts_test::zero_from` meets its contract. The invariant: how many entries so far are others than 0. Assumes nothing.
+-- `geometry::counts_test::zero_from` meets its contract. The invariant: the bits of the entries so far, together. Assumes nothing.
 use Prim.Native.Nat.{_-_}
 use native.Mathlib.Omega.{arith}
 use lib.ListN.{length}
@@ -13,19 +13,13 @@ abbrev μ-loop : tie.MeasureT-loop
 μ-loop counts from others₀ i₀ others i = length counts - i
 
 loop-holds : tie.Need-loop-holds Inv-loop μ-loop
-loop-holds c = others-start _ _ (c .before .pre)
+loop-holds c = others-start _ _ (c .pre)
 
-mul-one-unless-zero : tie.Need-mul-one-unless-zero Inv-loop μ-loop
-mul-one-unless-zero c = omega arith
+mul-others : tie.Need-mul-others Inv-loop μ-loop
+mul-others c = omega arith
 
-shared-slice-read-one-unless-zero : tie.Need-shared-slice-read-one-unless-zero Inv-loop μ-loop
-shared-slice-read-one-unless-zero c = omega arith
-
-one-unless-zero-requires : tie.Need-one-unless-zero-requires Inv-loop μ-loop
-one-unless-zero-requires c κs = omega arith
-
-add-others : tie.Need-add-others Inv-loop μ-loop
-add-others c = omega (arith, c .one-unless-zero .ensures)
+shared-slice-read-others : tie.Need-shared-slice-read-others Inv-loop μ-loop
+shared-slice-read-others c = omega arith
 
 add-i : tie.Need-add-i Inv-loop μ-loop
 add-i c = omega arith
@@ -34,7 +28,7 @@ loop-less : tie.Need-loop-less Inv-loop μ-loop
 loop-less c = omega arith
 
 loop-again : tie.Need-loop-again Inv-loop μ-loop
-loop-again c = rw (c .one-unless-zero .ensures) (others-more _ _ (c .before .before .before .loop .inv) (c .before .before .loop-test .taken))
+loop-again c = others-more _ _ (c .before .before .loop .inv) (c .before .loop-test .taken)
 
 returns : tie.Need-returns Inv-loop μ-loop
 returns c = others-none _ _ (c .before .before .loop .inv) (c .before .loop-test .left) (c .if1 .taken)
@@ -49,10 +43,8 @@ zero-from-spec =
     Inv-loop
     μ-loop
     loop-holds
-    mul-one-unless-zero
-    shared-slice-read-one-unless-zero
-    one-unless-zero-requires
-    add-others
+    mul-others
+    shared-slice-read-others
     add-i
     loop-less
     loop-again

@@ -1,0 +1,25 @@
+-- `elastic::route::holds` meets its contract. Assumes nothing.
+use Rattle.elastic.specs.ReadingLaws.{holds-vacant, holds-word}
+use borrow.Author.Needs.{needs}
+use Rattle.elastic.proofs.route.holds.Statement.{statement}
+use Rattle.elastic.proofs.route.holds.Tie as tie
+
+shared-slice-read-if1 : tie.Need-shared-slice-read-if1
+shared-slice-read-if1 c = search needs
+
+returns : tie.Need-returns
+returns c = holds-vacant _ _ _ _ (c .if1 .taken)
+
+mul-result : tie.Need-mul-result
+mul-result c = search needs
+
+shared-slice-read-result : tie.Need-shared-slice-read-result
+shared-slice-read-result c = search needs
+
+returns-2 : tie.Need-returns-2
+returns-2 c = holds-word _ _ _ _ (c .before .if1 .left)
+
+pub holds-spec : {M : Type 1} → statement M
+holds-spec =
+    tie.close
+    (tie.spec shared-slice-read-if1 returns mul-result shared-slice-read-result returns-2)

@@ -1,0 +1,12 @@
+pub mod Examples
+pub mod Insert
+pub mod InsertLaws
+pub mod Query
+pub mod QueryLaws
+pub mod QuerySteps
+pub mod Reading
+pub mod ReadingLaws
+pub mod State
+pub mod StateLaws
+pub mod Table
+pub mod TableLaws
