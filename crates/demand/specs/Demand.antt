@@ -15,6 +15,20 @@ use Rattle.audit.specs.Check.{Ended, ended, checkOf}
 use Rattle.audit.specs.CheckLaws.{Lent}
 use Rattle.audit.specs.FirstLaws.{first-found}
 use Rattle.audit.specs.ReadyLaws.{unplaced-facts, unplaced-yes}
+use Rattle.geometry.specs.Funnel.{IsPlan}
+use Rattle.geometry.specs.declared.funnel.FunnelPlan.{FunnelPlan}
+use Rattle.funnel.specs.Fresh.{State, fresh, after, Sound}
+use Rattle.funnel.specs.FreshLaws.{fresh-after}
+use Rattle.funnel.specs.Insert.{withCount}
+use Rattle.image.specs.declared.calls.Loaded.the-variants as loaded
+use Rattle.image.specs.declared.writer.Written.the-variants as written
+use Rattle.image.specs.Calls.{writeImageOf, loadings, loadImageOf}
+use Rattle.image.specs.DirtyLaws.{entries-most}
+use Rattle.image.specs.Format.{entriesOf}
+use Rattle.image.specs.Writing.{writes}
+use Rattle.image_laws.specs.CallRoundTrip.{load-image-after-write-image}
+use Rattle.image_laws.specs.RoundTrip.{Machine}
+use Rattle.demand.specs.RunLaws.{after-made}
 use Rattle.demand.specs.Made.{Occupied, members, LeavesAt, Made, identitiesAt, PartOf, placedWords}
 use Rattle.demand.specs.MadeLaws.{placed-all, placed-same}
 use Rattle.demand.specs.EndLaws.{Finished, accepted-end, disorder-end, dirty-end, made-answer, end-contains, accepted-marks}
@@ -115,3 +129,45 @@ module _ {table : FunnelTable} {counts words flags marks order : List ℕ} (lent
   disordered-left placed slot marks' order' e =
       let t = disorder-end lent placed slot marks' order' e .turns in
       record { bits = t .bits; marked = t .part; number = sym (t .number); marks-n = t .marks-n; order-n = t .order-n; tail = t .tail }
+
+-- 5, second sentence. Images of tables that insertions filled from fresh, written and loaded, are accepted: whatever identities were
+-- inserted, and however each was answered, if the writer wrote an image then the loader reads back the same words and flags, and the check
+-- of the table that it answers accepts them, with every member placed.
+pub record Returned (counts : List ℕ) (table : FunnelTable) (words flags image words₀ flags₀ : List ℕ) : Type 0 where
+  pub table' : FunnelTable
+  pub labelAt : ℕ
+  pub labelLen : ℕ
+  pub loads : loadImageOf table counts words₀ flags₀ image ≡ loadings (loaded.Done table' labelAt labelLen) words flags
+  pub accepts : (marks order : List ℕ) → length marks ≡ table .n → length order ≡ table .n
+      → checkOf table' counts words flags marks order .answer ≡ checked.Accepted (members flags)
+
+pub returned : (counts : List ℕ) (n e seed cap : ℕ) (plan : FunnelPlan) → IsPlan n e plan counts → 1 ≤ cap → cap ≤ 256 → (identities : List ℕ)
+    → (table : FunnelTable) (words flags : List ℕ) → after counts (fresh n e seed cap plan) identities ≡ record { table = table; words = words; flags = flags }
+    → Machine (table .n) (table .e) (table .seed) words
+    → (label out out' : List ℕ) (len : ℕ) → writeImageOf table counts words flags label out ≡ writes (written.Done len) out'
+    → (words₀ flags₀ : List ℕ) → length words₀ ≡ table .n → length flags₀ ≡ table .n → Returned counts table words flags (take len out') words₀ flags₀
+unfolding entriesOf
+returned counts n e seed cap plan is low high identities table words flags ran fits label out out' len wrote words₀ flags₀ lw lf =
+    record {
+      table' = withCount table (length (entriesOf words flags));
+      labelAt = _;
+      labelLen = _;
+      loads = load-image-after-write-image table counts words flags label out fits len out' wrote words₀ flags₀ lw lf;
+      accepts = λ marks order m o. made-accepted (lent marks order m o) (made .0, (made .1 .0, record { after = made .1 .1 .after; inserts = made .1 .1 .inserts }));
+    }
+  where
+    sound : Sound counts (record { table = table; words = words; flags = flags })
+    sound = rw ran at (fresh-after is seed cap low high identities)
+
+    made : Made table counts words flags
+    made = rw ran at (after-made counts n e seed cap plan identities)
+
+    lent : (marks order : List ℕ) → length marks ≡ table .n → length order ≡ table .n → Lent (withCount table (length (entriesOf words flags))) counts words flags marks order
+    lent marks order m o =
+        let v = sound .valid in
+        let most = entries-most words flags 0 (length flags) in
+        record {
+          valid = record { planned = v .planned; cap-least = v .cap-least; cap-most = v .cap-most; words-length = v .words-length; flags-length = v .flags-length; counted = omega (arith, v .flags-length) };
+          marks-n = m;
+          order-n = o;
+        }

@@ -4,5 +4,6 @@ pub mod EndLaws
 pub mod FillLaws
 pub mod Made
 pub mod MadeLaws
+pub mod RunLaws
 pub mod TakeLaws
 pub mod WalkLaws
