@@ -49,6 +49,17 @@ module _ {table : FunnelTable} {counts words flags marks order : List ℕ} (lent
   pub made-accepted : Made table counts words flags → checkOf table counts words flags marks order .answer ≡ checked.Accepted (members flags)
   made-accepted m = made-answer lent m
 
+  -- 1 and 2 together: the check accepts the image exactly if some order of insertions makes it.
+  pub exactly : ((placed : ℕ) → checkOf table counts words flags marks order .answer ≡ checked.Accepted placed → Made table counts words flags)
+      × (Made table counts words flags → checkOf table counts words flags marks order .answer ≡ checked.Accepted (members flags))
+  exactly = (
+    λ placed e.
+        let c = checkOf table counts words flags marks order in
+        let l = accepted placed (c .marks) (c .order) (ap (λ (a : Checked). ended a (c .marks) (c .order)) e) in
+        (identitiesAt words (take placed (c .order)), (take placed (c .order), l)),
+    made-accepted,
+  )
+
   -- 3. DISORDERED. No order of insertions leaves the image; `placed` is the number of placed slots; the slot named is occupied and not
   -- placed, and every smaller occupied slot is placed.
   pub record Disordered (placed slot : ℕ) (marks' : List ℕ) : Type 0 where

@@ -1,3 +1,4 @@
+pub mod Examples
 pub mod Crossed
 pub mod Demand
 pub mod EndLaws
