@@ -1,8 +1,8 @@
 -- Laws of the check: its tests, and its endings. Assumes nothing.
 use mathlib.Core.Bool.{Bool, true, false, not}
 use mathlib.Core.List.{List, [], _∷_, _++_, append-nil}
-use mathlib.Core.Path.{_≡_, refl, ap, sym, _∙_}
-use Prim.Native.Nat.{ℕ, zero, suc, _+_, _-_, _≤_, _<_}
+use mathlib.Core.Path.{_≡_, refl, sym, _∙_}
+use Prim.Native.Nat.{ℕ, suc, _+_, _≤_, _<_}
 use native.Mathlib.Numerals.{add-one}
 use native.Mathlib.Omega.{arith}
 use lib.ListN.{length, getD, set, drop, replicate, length-set, length-replicate, replicate-append-replicate}
@@ -18,12 +18,11 @@ use Rattle.funnel.specs.declared.table.FunnelTable.{FunnelTable}
 use Rattle.funnel.specs.Calls.{gateThen, lengthsThen, tableGate}
 use Rattle.funnel.specs.CallLaws.{lengths-words, lengths-flags, lengths-pass, gate-valid, valid-gate}
 use Rattle.funnel.specs.Valid.{Valid}
-use Rattle.audit.specs.declared.check.Checked.{Checked}
 use Rattle.audit.specs.declared.check.Checked.the-variants as checked
 use Rattle.audit.specs.declared.slots.First.{First}
 use Rattle.audit.specs.declared.slots.First.the-variants.{At, Nothing}
-use Rattle.audit.specs.Greedy.{firstFrom, unplaced, Taken, taken, greedyOf}
-use Rattle.audit.specs.Check.{dirtyAt, Ended, ended, answerOf, endOf, takeAll, unlessDirty, auditOf, checkGate, checkOf}
+use Rattle.audit.specs.Greedy.{firstFrom, unplaced, taken, greedyOf}
+use Rattle.audit.specs.Check.{dirtyAt, Ended, ended, answerOf, endOf, takeAll, auditOf, checkGate, checkOf}
 
 -- ---- a dirty slot
 

@@ -2,22 +2,22 @@
 -- exists, and the placed part is handed back. `Made.antt` says what the words mean; no definition here or there mentions code, and
 -- the contract of the check says that its answer, marks and order are those of `checkOf`. The theorems speak of calls past STATE
 -- (`Lent`: the state is valid and the lent buffers are n long). Assumes nothing.
-use mathlib.Core.List.{List, [], _∷_}
+use mathlib.Core.List.{List}
 use mathlib.Core.Path.{_≡_, ap, sym, _∙_}
-use Prim.Native.Nat.{ℕ, _+_, _≤_, _<_}
+use Prim.Native.Nat.{ℕ, _≤_, _<_}
 use native.Mathlib.Omega.{arith}
 use lib.ListN.{length, getD, take, drop}
 use Rattle.funnel.specs.declared.table.FunnelTable.{FunnelTable}
 use Rattle.audit.specs.declared.check.Checked.{Checked}
 use Rattle.audit.specs.declared.check.Checked.the-variants as checked
 use Rattle.audit.specs.declared.slots.First.the-variants.{At}
-use Rattle.audit.specs.Check.{Ended, ended, checkOf}
+use Rattle.audit.specs.Check.{dirtyAt, Ended, ended, checkOf}
 use Rattle.audit.specs.CheckLaws.{Lent}
-use Rattle.audit.specs.FirstLaws.{first-found}
+use Rattle.audit.specs.FirstLaws.{Found, first-found}
 use Rattle.audit.specs.ReadyLaws.{unplaced-facts, unplaced-yes}
 use Rattle.geometry.specs.Funnel.{IsPlan}
 use Rattle.geometry.specs.declared.funnel.FunnelPlan.{FunnelPlan}
-use Rattle.funnel.specs.Fresh.{State, fresh, after, Sound}
+use Rattle.funnel.specs.Fresh.{fresh, after, Sound}
 use Rattle.funnel.specs.FreshLaws.{fresh-after}
 use Rattle.funnel.specs.Insert.{withCount}
 use Rattle.image.specs.declared.calls.Loaded.the-variants as loaded
@@ -115,12 +115,16 @@ module _ {table : FunnelTable} {counts words flags marks order : List ℕ} (lent
       word : (s : ℕ) → Occupied marks' s → getD (placedWords words marks') s 0 ≡ getD words s 0
       word s o = placed-same words marks' s (lent .valid .words-length ∙ sym (f .turns .marks-n)) o
 
-  -- 5. DIRTY images are made by no order.
+  -- 5. DIRTY images are made by no order; the slot named is the smallest dirty one.
   pub dirty : (slot : ℕ) (marks' order' : List ℕ) → checkOf table counts words flags marks order ≡ ended (checked.Dirty slot) marks' order' → Made table counts words flags → ⊥
   dirty slot marks' order' e m =
       let a : checked.Dirty slot ≡ checked.Accepted (members flags) = sym (ap (λ (x : Ended). x .answer) e) ∙ made-accepted m in
       let z : _≡_ {A = ℕ} 0 1 = cc in
       omega arith
+
+  pub dirty-slot : (slot : ℕ) (marks' order' : List ℕ) → checkOf table counts words flags marks order ≡ ended (checked.Dirty slot) marks' order'
+      → Found (dirtyAt words flags) 0 (table .n) slot
+  dirty-slot slot marks' order' e = first-found _ 0 (table .n) slot (dirty-end lent slot marks' order' e)
 
   -- Both endings leave 0 and 1 in the marks, as many 1 as were placed, only under members, and the tail of the order as it was.
   pub record Left (placed : ℕ) (marks' order' : List ℕ) : Type 0 where

@@ -1,19 +1,17 @@
 -- Where the greedy order ends in a valid state, and what the check's answer says of it. Assumes nothing.
 use mathlib.Core.Bool.{Bool, true, false}
-use mathlib.Core.List.{List, [], _∷_}
+use mathlib.Core.List.{List}
 use mathlib.Core.Path.{_≡_, refl, ap, sym, _∙_}
-use Prim.Native.Nat.{ℕ, zero, suc, _+_, _≤_, _<_}
+use Prim.Native.Nat.{ℕ, _≤_, _<_}
 use native.Mathlib.Decide.{ℕ-discrete}
 use native.Mathlib.Omega.{arith}
-use lib.ListN.{length, getD, set, take, drop, replicate, length-replicate, List·getD-eq-default}
+use lib.ListN.{length, getD, replicate, length-replicate, List·getD-eq-default}
 use lib.Seq.{ext-getD}
 use lib.Dec.{eqb, ltb, leb}
-use borrow.Author.Tests.{eqb-true, eqb-false, eq-eqb, ne-eqb, ltb-true, ltb-false, leb-true, leb-false}
-use Rattle.words.specs.Pick.{pick}
+use borrow.Author.Tests.{eqb-true, eq-eqb, ltb-true, ltb-false, leb-true, leb-false}
 use Rattle.funnel.specs.declared.table.FunnelTable.{FunnelTable}
 use Rattle.funnel.specs.PathLaws.{path-below}
 use Rattle.funnel.specs.Search.{tablePath}
-use Rattle.audit.specs.declared.check.Checked.{Checked}
 use Rattle.audit.specs.declared.check.Checked.the-variants as checked
 use Rattle.audit.specs.declared.slots.First.{First}
 use Rattle.audit.specs.declared.slots.First.the-variants.{At, Nothing}
@@ -23,10 +21,10 @@ use Rattle.audit.specs.CheckLaws.{Lent, check-audit, clean-vacant, clean-flag}
 use Rattle.audit.specs.FirstLaws.{first-none, first-all}
 use Rattle.audit.specs.ReadyLaws.{unplaced-vacant, unplaced-marked, unplaced-yes}
 use Rattle.funnel.specs.FreshLaws.{occupied-none}
-use Rattle.demand.specs.Made.{Occupied, members, Made, PartOf, placedWords}
-use Rattle.demand.specs.MadeLaws.{getD-zeros, members-part, members-whole, occupied-below}
-use Rattle.demand.specs.WalkLaws.{Below, Inside}
-use Rattle.demand.specs.FillLaws.{Clean, Sized, Filled, fills-of, fills-members, fills-clean, fills-words, fills-flags, inside}
+use Rattle.demand.specs.Made.{Occupied, members, Made, PartOf}
+use Rattle.demand.specs.MadeLaws.{getD-zeros, members-part, members-whole}
+use Rattle.demand.specs.WalkLaws.{Below}
+use Rattle.demand.specs.FillLaws.{Clean, Sized, Filled, fills-of, fills-members, fills-clean, inside}
 use Rattle.demand.specs.TakeLaws.{Taking, greedy-taking, greedy-ends}
 
 -- ---- a clean image

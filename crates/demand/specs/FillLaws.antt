@@ -1,21 +1,21 @@
 -- Laws of insertions one after the other: what they keep, and the main lemma of demand 3. They use of a path only that its slots are
 -- below n and that it does not change. Assumes nothing.
-use mathlib.Core.Bool.{Bool, true, false}
-use mathlib.Core.List.{List, [], _∷_}
+use mathlib.Core.Bool.{false}
+use mathlib.Core.List.{List}
 use mathlib.Core.Path.{_≡_, refl, ap, sym, _∙_}
-use Prim.Native.Nat.{ℕ, zero, suc, _+_, _≤_, _<_}
+use Prim.Native.Nat.{ℕ, _+_, _≤_, _<_}
 use native.Mathlib.Decide.{ℕ-discrete}
 use native.Mathlib.Omega.{arith}
 use lib.ListN.{length, getD, set, length-set}
 use lib.Seq.{getD-set-same, getD-set-other}
 use lib.Dec.{eqb}
-use borrow.Author.Tests.{eq-eqb, eqb-false}
+use borrow.Author.Tests.{eqb-false}
 use Rattle.words.specs.declared.place.Place.{Place}
 use Rattle.funnel.specs.declared.table.FunnelTable.{FunnelTable}
 use Rattle.funnel.specs.declared.table.Search.the-variants.{Vacant}
 use Rattle.funnel.specs.Path.{slotOf}
 use Rattle.funnel.specs.Search.{tablePath, findOf}
-use Rattle.funnel.specs.Insert.{Done, withCount, insertOf}
+use Rattle.funnel.specs.Insert.{Done, withCount}
 use Rattle.funnel.specs.InsertLaws.{find-count, inserted-facts}
 use Rattle.audit.specs.Greedy.{ready}
 use Rattle.audit.specs.ReadyLaws.{ready-by}
@@ -83,14 +83,6 @@ module _ (table : FunnelTable) (counts : List ℕ) (below : (identity : ℕ) →
       let b = find-below table counts words flags identity probes place f (table .n) (below identity) in
       let v = find-vacancy table counts words flags identity probes place f in
       record { in-words = omega (arith, z .words-n); in-flags = omega (arith, z .flags-n); vacant = rw at at v }
-
-  pub fills-words : {k k' : ℕ} {words flags words' flags' : List ℕ} → Fills table counts k words flags k' words' flags' → length words ≡ table .n → length words' ≡ table .n
-  fills-words still h = h
-  fills-words (store identity s probes place at f room r) h = fills-words r (simp length-set h)
-
-  pub fills-flags : {k k' : ℕ} {words flags words' flags' : List ℕ} → Fills table counts k words flags k' words' flags' → length flags ≡ table .n → length flags' ≡ table .n
-  fills-flags still h = h
-  fills-flags (store identity s probes place at f room r) h = fills-flags r (simp length-set h)
 
   kept : {k k' : ℕ} {words flags words' flags' : List ℕ} → Fills table counts k words flags k' words' flags' → Sized (table .n) words flags → (t : ℕ) → Occupied flags t → Kept words flags words' flags' t
   kept still z t o = record { stays = o; word = refl }

@@ -1,12 +1,12 @@
 -- Laws of members and of the words of a placed part. Assumes nothing.
 use mathlib.Core.Bool.{Bool, true, false}
 use mathlib.Core.List.{List, [], _∷_}
-use mathlib.Core.Path.{_≡_, refl, ap, sym, _∙_}
+use mathlib.Core.Path.{_≡_, refl, ap}
 use Prim.Native.Nat.{ℕ, zero, suc, _+_, _≤_, _<_}
 use native.Mathlib.Decide.{ℕ-discrete}
 use native.Mathlib.Omega.{arith}
 use lib.ListN.{length, getD, set, replicate}
-use lib.Seq.{getD-set-same, getD-set-other, ext-getD}
+use lib.Seq.{getD-set-same, getD-set-other}
 use lib.Dec.{eqb}
 use borrow.Author.Tests.{eq-eqb, ne-eqb, eqb-true, eqb-false}
 use Rattle.words.specs.Pick.{pick}
@@ -86,12 +86,6 @@ members-whole (x ∷ a) (y ∷ b) h l t o = go (eqb x 0) refl (eqb y 0) refl l t
     go false p false q l (suc t) o ih = ih (omega arith) t o
 
 -- ---- the words of a placed part
-
-pub placed-length : (words marks : List ℕ) → length words ≡ length marks → length (placedWords words marks) ≡ length words
-unfolding placedWords
-placed-length [] marks l = refl
-placed-length (w ∷ words) [] l = absurd (omega arith)
-placed-length (w ∷ words) (m ∷ marks) l = ap suc (placed-length words marks (omega arith))
 
 -- no word where nothing is marked
 pub placed-none : (words : List ℕ) (n : ℕ) → length words ≡ n → placedWords words (replicate n 0) ≡ replicate n 0

@@ -14,7 +14,7 @@ use Rattle.funnel.specs.Path.{slotOf}
 use Rattle.funnel.specs.Insert.{Done, done, withCount, insertOf}
 use Rattle.funnel.specs.InsertLaws.{Inserts as Changes, insert-changes, inserted-facts}
 use Rattle.funnel.specs.Fresh.{State, fresh, next, after}
-use Rattle.demand.specs.Made.{Inserts, none, one, LeavesAt, Leaves, Made}
+use Rattle.demand.specs.Made.{Inserts, none, one, Made}
 use Rattle.demand.specs.TakeLaws.{inserts-snoc}
 
 -- some insertions, each answered as inserted, from one state to another

@@ -6,9 +6,9 @@ use Prim.Native.Nat.{ℕ, zero, suc, _+_, _≤_, _<_}
 use native.Mathlib.Numerals.{add-one}
 use native.Mathlib.Omega.{arith}
 use lib.ListN.{length, getD, set, take, drop, replicate, length-set, length-replicate}
-use lib.Seq.{getD-set-same, getD-set-other, take-suc-set, drop-set-lt, drop-drop}
+use lib.Seq.{take-suc-set, drop-set-lt, drop-drop}
 use lib.Dec.{eqb}
-use borrow.Author.Tests.{eqb-true, eqb-false}
+use borrow.Author.Tests.{eqb-false}
 use Rattle.words.specs.Pick.{pick}
 use Rattle.words.specs.declared.place.Place.{Place}
 use Rattle.funnel.specs.declared.table.FunnelTable.{FunnelTable}
@@ -20,14 +20,14 @@ use Rattle.funnel.specs.Insert.{done, withCount, insertOf}
 use Rattle.audit.specs.declared.slots.First.{First}
 use Rattle.audit.specs.declared.slots.First.the-variants.{At, Nothing}
 use Rattle.funnel.specs.InsertLaws.{insert-inserted}
-use Rattle.audit.specs.Greedy.{firstFrom, ready, Taken, taken, byFirst, greedyOf}
+use Rattle.audit.specs.Greedy.{firstFrom, ready, taken, byFirst, greedyOf}
 use Rattle.audit.specs.FirstLaws.{first-found, first-none}
 use Rattle.audit.specs.ReadyLaws.{Ready, ready-facts, ready-marked}
 use Rattle.funnel.specs.Fresh.{occupied}
 use Rattle.funnel.specs.FreshLaws.{occupied-none, occupied-set}
-use Rattle.demand.specs.Made.{Occupied, members, Inserts, none, one, LeavesAt, identitiesAt, placedWords}
-use Rattle.demand.specs.MadeLaws.{getD-zeros, getD-set-cases, members-most, placed-length, placed-none, placed-set, placed-same}
-use Rattle.demand.specs.WalkLaws.{find-same, Below, find-below}
+use Rattle.demand.specs.Made.{Occupied, members, Inserts, none, one, identitiesAt, placedWords}
+use Rattle.demand.specs.MadeLaws.{getD-zeros, getD-set-cases, members-most, placed-none, placed-set, placed-same}
+use Rattle.demand.specs.WalkLaws.{find-same, Below}
 
 -- ---- what holds at each turn holds at the end
 
