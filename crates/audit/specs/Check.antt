@@ -15,7 +15,7 @@ use Rattle.audit.specs.declared.check.Checked.{Checked}
 use Rattle.audit.specs.declared.check.Checked.the-variants as checked
 use Rattle.audit.specs.declared.slots.First.{First}
 use Rattle.audit.specs.declared.slots.First.the-variants.{At, Nothing}
-use Rattle.audit.specs.Greedy.{firstFrom, unplaced, Taken, taken, greedyOf}
+use Rattle.audit.specs.Greedy.{firstFrom, unplaced, Taken, greedyOf}
 
 -- DIRTY: "flag above 1, or vacant slot with nonzero word"
 unfoldable pub dirtyAt : (words flags : List ℕ) → ℕ → Bool

@@ -1,9 +1,9 @@
 -- The greedy order as the two passes over the slots make it: what is left gives what the whole gives. Assumes nothing.
 use mathlib.Core.Bool.{Bool, true, false}
 use mathlib.Core.List.{List}
-use mathlib.Core.Path.{_≡_, refl, ap, sym, _∙_}
+use mathlib.Core.Path.{_≡_, refl, sym, _∙_}
 use mathlib.Core.Logic.{⊎-elim}
-use Prim.Native.Nat.{ℕ, zero, suc, _+_, _-_, _≤_, _<_}
+use Prim.Native.Nat.{ℕ, suc, _+_, _-_, _≤_, _<_}
 use native.Mathlib.Nat.{eq-or-lt-of-le}
 use native.Mathlib.Omega.{arith}
 use lib.ListN.{length, getD, set, replicate, length-set}
@@ -18,7 +18,7 @@ use Rattle.audit.specs.declared.slots.First.{First}
 use Rattle.audit.specs.declared.slots.First.the-variants.{At, Nothing}
 use Rattle.audit.specs.Greedy.{firstFrom, ready, Taken, taken, byFirst, greedyOf}
 use Rattle.audit.specs.Going.{Going}
-use Rattle.audit.specs.FirstLaws.{Found, first-at, first-found, first-none, first-all}
+use Rattle.audit.specs.FirstLaws.{first-at, first-found, first-none, first-all}
 use Rattle.audit.specs.ReadyLaws.{ready-marked}
 use Rattle.audit.specs.OrdinaryLaws.{ready-later}
 

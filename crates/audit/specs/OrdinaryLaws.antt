@@ -1,7 +1,7 @@
 -- Whether an ordinary slot is ready depends on smaller slots only: on a path they come in rising order, before every special one. Assumes nothing.
 use mathlib.Core.Bool.{Bool, true, false}
 use mathlib.Core.List.{List, [], _∷_, _++_}
-use mathlib.Core.Path.{_≡_, refl, ap, sym, _∙_}
+use mathlib.Core.Path.{_≡_, refl, sym, _∙_}
 use Prim.Native.Nat.{ℕ, _+_, _≤_, _<_}
 use native.Mathlib.Omega.{arith}
 use lib.ListN.{getD, set}
@@ -11,9 +11,7 @@ use borrow.Author.Tests.{ne-eqb, ltb-true, ltb-false, leb-true, leb-false}
 use Rattle.words.specs.declared.place.Place.{Place}
 use Rattle.geometry.specs.Funnel.{IsPlan}
 use Rattle.funnel.specs.declared.table.FunnelTable.{FunnelTable}
-use Rattle.funnel.specs.declared.table.Search.{Search}
-use Rattle.funnel.specs.declared.table.Search.the-variants.{Hit, Vacant, Full, Range}
-use Rattle.funnel.specs.Path.{Ending, full, refused, Path, slotOf, joinAt, join, levelStart, primaryStart, fallbackStart, levelsFrom, primaryFrom, fallbackOf, pathOf}
+use Rattle.funnel.specs.Path.{Ending, full, refused, Path, slotOf, joinAt, join, primaryStart, fallbackStart, pathOf}
 use Rattle.funnel.specs.PathLaws.{join-every, levels-rising, primary-between, fallback-between}
 use Rattle.funnel.specs.Search.{look, walkOf, searchOf, tablePath, findOf}
 use Rattle.funnel.specs.Every.{Every, Rising, Between}

@@ -2,23 +2,20 @@
 use mathlib.Core.Bool.{Bool, true, false}
 use mathlib.Core.List.{List}
 use mathlib.Core.Path.{_≡_, refl, ap, sym, _∙_}
-use Prim.Native.Nat.{ℕ, _+_, _≤_, _<_}
+use Prim.Native.Nat.{ℕ, _≤_, _<_}
 use native.Mathlib.Omega.{arith}
-use lib.ListN.{length, getD, set}
+use lib.ListN.{getD}
 use lib.Dec.{eqb, leb}
 use borrow.Author.Tests.{eq-eqb, ne-eqb, eqb-true, eqb-false, le-leb, lt-leb, leb-true, leb-false}
 use Rattle.words.specs.Pick.{pick}
 use Rattle.words.specs.declared.place.Place.{Place}
-use Rattle.refusal.specs.declared.RangeRefusal.{RangeRefusal}
 use Rattle.funnel.specs.declared.table.FunnelTable.{FunnelTable}
 use Rattle.funnel.specs.declared.table.Search.{Search}
 use Rattle.funnel.specs.declared.table.Search.the-variants as search
-use Rattle.funnel.specs.declared.table.Insertion.{Insertion}
-use Rattle.funnel.specs.declared.table.Insertion.the-variants as insertion
 use Rattle.funnel.specs.Path.{slotOf}
 use Rattle.funnel.specs.Search.{findOf}
 use Rattle.funnel.specs.InsertLaws.{find-count}
-use Rattle.funnel.specs.Insert.{Done, done, withCount, unlessExhausted, insertBy, insertOf}
+use Rattle.funnel.specs.Insert.{withCount, insertBy, insertOf}
 use Rattle.audit.specs.Greedy.{unplaced, insertedAt, intoPlaced, ready}
 
 -- ---- occupied and not placed
@@ -47,56 +44,6 @@ module _ (flags marks : List ℕ) (s : ℕ) where
       go : (x : Bool) → eqb (getD flags s 0) 0 ≡ x → pick x false (eqb (getD marks s 0) 0) ≡ true → (getD flags s 0 ≡ 0 → ⊥) × (getD marks s 0 ≡ 0)
       go true q e = let z : _≡_ {A = ℕ} 0 1 = cc in absurd (omega arith)
       go false q e = (eqb-false _ _ q, eqb-true _ _ e)
-
--- ---- an insertion that is answered as inserted
-
--- what it was: its search ended vacant, fewer than the maximum were in, and it wrote one slot
-pub record Was (table : FunnelTable) (counts words flags : List ℕ) (identity probes : ℕ) (place : Place) (table' : FunnelTable) (words' flags' : List ℕ) : Type 0 where
-  pub found : findOf table counts words flags identity ≡ search.Vacant probes place
-  pub room : table .count < table .plan .maximum
-  pub state : table' ≡ withCount table (table .count + 1)
-  pub words-are : words' ≡ set words (slotOf place) identity
-  pub flags-are : flags' ≡ set flags (slotOf place) 1
-
-module _ (table : FunnelTable) (counts words flags : List ℕ) (identity : ℕ) where
-  pub inserted-was : (probes : ℕ) (place : Place) (table' : FunnelTable) (words' flags' : List ℕ)
-      → insertOf table counts words flags identity ≡ done (insertion.Inserted probes place) table' words' flags' → Was table counts words flags identity probes place table' words' flags'
-  unfolding insertOf insertBy
-  inserted-was probes place table' words' flags' e = go (findOf table counts words flags identity) refl e
-    where
-      W : Type 0
-      W = Was table counts words flags identity probes place table' words' flags'
-
-      put : (k : ℕ) (p : Place) (b : Bool) → leb (table .plan .maximum) (table .count) ≡ b → findOf table counts words flags identity ≡ search.Vacant k p
-          → pick b (done (insertion.Exhausted k) table words flags) (done (insertion.Inserted k p) (withCount table (table .count + 1)) (set words (slotOf p) identity) (set flags (slotOf p) 1))
-          ≡ done (insertion.Inserted probes place) table' words' flags' → Was table counts words flags identity probes place table' words' flags'
-      put k p true l q e = let a = ap (λ (d : Done). d .answer) e in let z : _≡_ {A = ℕ} 0 1 = cc in absurd (omega arith)
-      put k p false l q e =
-          let a = ap (λ (d : Done). d .answer) e in
-          let x : k ≡ probes = cc in
-          let y : p ≡ place = cc in
-          let b = ap (λ (d : Done). d .words) e in
-          let f = ap (λ (d : Done). d .flags) e in
-          let g = ap (λ (d : Done). d .table) e in
-          record { found = rw (x, y) at q; room = leb-false _ _ l; state = sym g; words-are = rw y at (sym b); flags-are = rw y at (sym f) }
-
-      other : (k : ℕ) (b : Bool) → pick b (done (insertion.Exhausted k) table words flags) (done (insertion.Full k) table words flags) ≡ done (insertion.Inserted probes place) table' words' flags'
-          → Was table counts words flags identity probes place table' words' flags'
-      other k true e = let a = ap (λ (d : Done). d .answer) e in let z : _≡_ {A = ℕ} 0 1 = cc in absurd (omega arith)
-      other k false e = let a = ap (λ (d : Done). d .answer) e in let z : _≡_ {A = ℕ} 0 1 = cc in absurd (omega arith)
-
-      go : (r : Search) → findOf table counts words flags identity ≡ r → insertBy table words flags identity r ≡ done (insertion.Inserted probes place) table' words' flags'
-          → Was table counts words flags identity probes place table' words' flags'
-      go (search.Hit k p) q e = let a = ap (λ (d : Done). d .answer) e in let z : _≡_ {A = ℕ} 0 1 = cc in absurd (omega arith)
-      go (search.Vacant k p) q e = put k p (leb (table .plan .maximum) (table .count)) refl q e
-      go (search.Full k) q e = other k (leb (table .plan .maximum) (table .count)) e
-      go (search.Range refusal) q e = let a = ap (λ (d : Done). d .answer) e in let z : _≡_ {A = ℕ} 0 1 = cc in absurd (omega arith)
-
-  pub insert-vacant : (probes : ℕ) (place : Place) → findOf table counts words flags identity ≡ search.Vacant probes place → table .count < table .plan .maximum
-      → insertOf table counts words flags identity
-      ≡ done (insertion.Inserted probes place) (withCount table (table .count + 1)) (set words (slotOf place) identity) (set flags (slotOf place) 1)
-  unfolding insertOf insertBy
-  insert-vacant probes place e h = rw (e, lt-leb _ _ h)
 
 -- ---- readiness by the search
 

@@ -58,9 +58,8 @@ pub fn first_unplaced(flags: &[u8], marks: &[u8], n: u64) -> First
 pub fn clear(marks: &mut [u8])
     ensures { λ r. ⌜ now (marks .exit) ≡ replicate (length (now (marks .entry))) 0 ⌝ }
 {
-    let n = marks.len();
     let mut i = 0;
-    while i < n {
+    while i < marks.len() {
         marks[i] = 0;
         i += 1;
     }

@@ -4,24 +4,22 @@ use mathlib.Core.Bool.{Bool, true, false}
 use mathlib.Core.List.{List, [], _∷_}
 use mathlib.Core.Logic.{⊎-elim}
 use mathlib.Core.Path.{_≡_, refl, ap, sym, _∙_}
-use Prim.Native.Nat.{ℕ, _+_, _≤_, _<_}
+use Prim.Native.Nat.{ℕ, _+_, _<_}
 use native.Mathlib.Omega.{arith}
-use lib.ListN.{length, getD, set, replicate, length-replicate}
+use lib.ListN.{getD, set, replicate}
 use lib.Seq.{getD-set-other}
 use lib.Dec.{eqb}
-use borrow.Author.Tests.{eq-eqb, eqb-true, eqb-false}
+use borrow.Author.Tests.{eqb-false}
 use Rattle.words.specs.declared.place.Place.{Place}
 use Rattle.funnel.specs.declared.table.FunnelTable.{FunnelTable}
-use Rattle.funnel.specs.declared.table.Search.{Search}
-use Rattle.funnel.specs.declared.table.Search.the-variants.{Hit, Vacant, Full, Range}
-use Rattle.funnel.specs.Path.{Ending, full, refused, slotOf}
+use Rattle.funnel.specs.declared.table.Search.the-variants.{Vacant}
+use Rattle.funnel.specs.Path.{Ending, slotOf}
 use Rattle.funnel.specs.Search.{look, walkOf, searchOf, tablePath, findOf}
-use Rattle.audit.specs.declared.check.Checked.{Checked}
 use Rattle.audit.specs.declared.check.Checked.the-variants as checked
 use Rattle.audit.specs.declared.slots.First.{First}
 use Rattle.audit.specs.declared.slots.First.the-variants.{At, Nothing}
-use Rattle.audit.specs.Greedy.{firstFrom, unplaced, ready, greedyOf}
-use Rattle.audit.specs.Check.{dirtyAt, Ended, ended, answerOf, endOf, takeAll, unlessDirty, auditOf, checkOf}
+use Rattle.audit.specs.Greedy.{firstFrom, unplaced, ready}
+use Rattle.audit.specs.Check.{Ended, endOf, takeAll, auditOf, checkOf}
 use Rattle.audit.specs.CheckLaws.{Lent, check-audit}
 use Rattle.audit.specs.FirstLaws.{first-none}
 use Rattle.audit.specs.ReadyLaws.{ready-facts, unplaced-yes}

@@ -2,19 +2,33 @@
 -- exists, and the placed part is handed back. `Made.antt` says what the words mean; no definition here or there mentions code, and
 -- the contract of the check says that its answer, marks and order are those of `checkOf`. The theorems speak of calls past STATE
 -- (`Lent`: the state is valid and the lent buffers are n long). Assumes nothing.
-use mathlib.Core.List.{List, [], _∷_}
+use mathlib.Core.List.{List}
 use mathlib.Core.Path.{_≡_, ap, sym, _∙_}
-use Prim.Native.Nat.{ℕ, _+_, _≤_, _<_}
+use Prim.Native.Nat.{ℕ, _≤_, _<_}
 use native.Mathlib.Omega.{arith}
 use lib.ListN.{length, getD, take, drop}
 use Rattle.funnel.specs.declared.table.FunnelTable.{FunnelTable}
 use Rattle.audit.specs.declared.check.Checked.{Checked}
 use Rattle.audit.specs.declared.check.Checked.the-variants as checked
 use Rattle.audit.specs.declared.slots.First.the-variants.{At}
-use Rattle.audit.specs.Check.{Ended, ended, checkOf}
+use Rattle.audit.specs.Check.{dirtyAt, Ended, ended, checkOf}
 use Rattle.audit.specs.CheckLaws.{Lent}
-use Rattle.audit.specs.FirstLaws.{first-found}
+use Rattle.audit.specs.FirstLaws.{Found, first-found}
 use Rattle.audit.specs.ReadyLaws.{unplaced-facts, unplaced-yes}
+use Rattle.geometry.specs.Funnel.{IsPlan}
+use Rattle.geometry.specs.declared.funnel.FunnelPlan.{FunnelPlan}
+use Rattle.funnel.specs.Fresh.{fresh, after, Sound}
+use Rattle.funnel.specs.FreshLaws.{fresh-after}
+use Rattle.funnel.specs.Insert.{withCount}
+use Rattle.image.specs.declared.calls.Loaded.the-variants as loaded
+use Rattle.image.specs.declared.writer.Written.the-variants as written
+use Rattle.image.specs.Calls.{writeImageOf, loadings, loadImageOf}
+use Rattle.image.specs.DirtyLaws.{entries-most}
+use Rattle.image.specs.Format.{entriesOf}
+use Rattle.image.specs.Writing.{writes}
+use Rattle.image_laws.specs.CallRoundTrip.{load-image-after-write-image}
+use Rattle.image_laws.specs.RoundTrip.{Machine}
+use Rattle.demand.specs.RunLaws.{after-made}
 use Rattle.demand.specs.Made.{Occupied, members, LeavesAt, Made, identitiesAt, PartOf, placedWords}
 use Rattle.demand.specs.MadeLaws.{placed-all, placed-same}
 use Rattle.demand.specs.EndLaws.{Finished, accepted-end, disorder-end, dirty-end, made-answer, end-contains, accepted-marks}
@@ -34,6 +48,17 @@ module _ {table : FunnelTable} {counts words flags marks order : List ℕ} (lent
   -- member placed.
   pub made-accepted : Made table counts words flags → checkOf table counts words flags marks order .answer ≡ checked.Accepted (members flags)
   made-accepted m = made-answer lent m
+
+  -- 1 and 2 together: the check accepts the image exactly if some order of insertions makes it.
+  pub exactly : ((placed : ℕ) → checkOf table counts words flags marks order .answer ≡ checked.Accepted placed → Made table counts words flags)
+      × (Made table counts words flags → checkOf table counts words flags marks order .answer ≡ checked.Accepted (members flags))
+  exactly = (
+    λ placed e.
+        let c = checkOf table counts words flags marks order in
+        let l = accepted placed (c .marks) (c .order) (ap (λ (a : Checked). ended a (c .marks) (c .order)) e) in
+        (identitiesAt words (take placed (c .order)), (take placed (c .order), l)),
+    made-accepted,
+  )
 
   -- 3. DISORDERED. No order of insertions leaves the image; `placed` is the number of placed slots; the slot named is occupied and not
   -- placed, and every smaller occupied slot is placed.
@@ -90,12 +115,16 @@ module _ {table : FunnelTable} {counts words flags marks order : List ℕ} (lent
       word : (s : ℕ) → Occupied marks' s → getD (placedWords words marks') s 0 ≡ getD words s 0
       word s o = placed-same words marks' s (lent .valid .words-length ∙ sym (f .turns .marks-n)) o
 
-  -- 5. DIRTY images are made by no order.
+  -- 5. DIRTY images are made by no order; the slot named is the smallest dirty one.
   pub dirty : (slot : ℕ) (marks' order' : List ℕ) → checkOf table counts words flags marks order ≡ ended (checked.Dirty slot) marks' order' → Made table counts words flags → ⊥
   dirty slot marks' order' e m =
       let a : checked.Dirty slot ≡ checked.Accepted (members flags) = sym (ap (λ (x : Ended). x .answer) e) ∙ made-accepted m in
       let z : _≡_ {A = ℕ} 0 1 = cc in
       omega arith
+
+  pub dirty-slot : (slot : ℕ) (marks' order' : List ℕ) → checkOf table counts words flags marks order ≡ ended (checked.Dirty slot) marks' order'
+      → Found (dirtyAt words flags) 0 (table .n) slot
+  dirty-slot slot marks' order' e = first-found _ 0 (table .n) slot (dirty-end lent slot marks' order' e)
 
   -- Both endings leave 0 and 1 in the marks, as many 1 as were placed, only under members, and the tail of the order as it was.
   pub record Left (placed : ℕ) (marks' order' : List ℕ) : Type 0 where
@@ -115,3 +144,45 @@ module _ {table : FunnelTable} {counts words flags marks order : List ℕ} (lent
   disordered-left placed slot marks' order' e =
       let t = disorder-end lent placed slot marks' order' e .turns in
       record { bits = t .bits; marked = t .part; number = sym (t .number); marks-n = t .marks-n; order-n = t .order-n; tail = t .tail }
+
+-- 5, second sentence. Images of tables that insertions filled from fresh, written and loaded, are accepted: whatever identities were
+-- inserted, and however each was answered, if the writer wrote an image then the loader reads back the same words and flags, and the check
+-- of the table that it answers accepts them, with every member placed.
+pub record Returned (counts : List ℕ) (table : FunnelTable) (words flags image words₀ flags₀ : List ℕ) : Type 0 where
+  pub table' : FunnelTable
+  pub labelAt : ℕ
+  pub labelLen : ℕ
+  pub loads : loadImageOf table counts words₀ flags₀ image ≡ loadings (loaded.Done table' labelAt labelLen) words flags
+  pub accepts : (marks order : List ℕ) → length marks ≡ table .n → length order ≡ table .n
+      → checkOf table' counts words flags marks order .answer ≡ checked.Accepted (members flags)
+
+pub returned : (counts : List ℕ) (n e seed cap : ℕ) (plan : FunnelPlan) → IsPlan n e plan counts → 1 ≤ cap → cap ≤ 256 → (identities : List ℕ)
+    → (table : FunnelTable) (words flags : List ℕ) → after counts (fresh n e seed cap plan) identities ≡ record { table = table; words = words; flags = flags }
+    → Machine (table .n) (table .e) (table .seed) words
+    → (label out out' : List ℕ) (len : ℕ) → writeImageOf table counts words flags label out ≡ writes (written.Done len) out'
+    → (words₀ flags₀ : List ℕ) → length words₀ ≡ table .n → length flags₀ ≡ table .n → Returned counts table words flags (take len out') words₀ flags₀
+unfolding entriesOf
+returned counts n e seed cap plan is low high identities table words flags ran fits label out out' len wrote words₀ flags₀ lw lf =
+    record {
+      table' = withCount table (length (entriesOf words flags));
+      labelAt = _;
+      labelLen = _;
+      loads = load-image-after-write-image table counts words flags label out fits len out' wrote words₀ flags₀ lw lf;
+      accepts = λ marks order m o. made-accepted (lent marks order m o) (made .0, (made .1 .0, record { after = made .1 .1 .after; inserts = made .1 .1 .inserts }));
+    }
+  where
+    sound : Sound counts (record { table = table; words = words; flags = flags })
+    sound = rw ran at (fresh-after is seed cap low high identities)
+
+    made : Made table counts words flags
+    made = rw ran at (after-made counts n e seed cap plan identities)
+
+    lent : (marks order : List ℕ) → length marks ≡ table .n → length order ≡ table .n → Lent (withCount table (length (entriesOf words flags))) counts words flags marks order
+    lent marks order m o =
+        let v = sound .valid in
+        let most = entries-most words flags 0 (length flags) in
+        record {
+          valid = record { planned = v .planned; cap-least = v .cap-least; cap-most = v .cap-most; words-length = v .words-length; flags-length = v .flags-length; counted = omega (arith, v .flags-length) };
+          marks-n = m;
+          order-n = o;
+        }

@@ -1,19 +1,17 @@
 -- Where the greedy order ends in a valid state, and what the check's answer says of it. Assumes nothing.
 use mathlib.Core.Bool.{Bool, true, false}
-use mathlib.Core.List.{List, [], _∷_}
+use mathlib.Core.List.{List}
 use mathlib.Core.Path.{_≡_, refl, ap, sym, _∙_}
-use Prim.Native.Nat.{ℕ, zero, suc, _+_, _≤_, _<_}
+use Prim.Native.Nat.{ℕ, _≤_, _<_}
 use native.Mathlib.Decide.{ℕ-discrete}
 use native.Mathlib.Omega.{arith}
-use lib.ListN.{length, getD, set, take, drop, replicate, length-replicate, List·getD-eq-default}
+use lib.ListN.{length, getD, replicate, length-replicate, List·getD-eq-default}
 use lib.Seq.{ext-getD}
 use lib.Dec.{eqb, ltb, leb}
-use borrow.Author.Tests.{eqb-true, eqb-false, eq-eqb, ne-eqb, ltb-true, ltb-false, leb-true, leb-false}
-use Rattle.words.specs.Pick.{pick}
+use borrow.Author.Tests.{eqb-true, eq-eqb, ltb-true, ltb-false, leb-true, leb-false}
 use Rattle.funnel.specs.declared.table.FunnelTable.{FunnelTable}
 use Rattle.funnel.specs.PathLaws.{path-below}
 use Rattle.funnel.specs.Search.{tablePath}
-use Rattle.audit.specs.declared.check.Checked.{Checked}
 use Rattle.audit.specs.declared.check.Checked.the-variants as checked
 use Rattle.audit.specs.declared.slots.First.{First}
 use Rattle.audit.specs.declared.slots.First.the-variants.{At, Nothing}
@@ -22,10 +20,11 @@ use Rattle.audit.specs.Check.{dirtyAt, Ended, ended, answerOf, endOf, takeAll, 
 use Rattle.audit.specs.CheckLaws.{Lent, check-audit, clean-vacant, clean-flag}
 use Rattle.audit.specs.FirstLaws.{first-none, first-all}
 use Rattle.audit.specs.ReadyLaws.{unplaced-vacant, unplaced-marked, unplaced-yes}
-use Rattle.demand.specs.Made.{Occupied, members, Made, PartOf, placedWords}
-use Rattle.demand.specs.MadeLaws.{getD-zeros, members-zeros, members-part, members-whole, occupied-below}
-use Rattle.demand.specs.WalkLaws.{Below, Inside}
-use Rattle.demand.specs.FillLaws.{Clean, Sized, Filled, fills-of, fills-members, fills-clean, fills-words, fills-flags, inside}
+use Rattle.funnel.specs.FreshLaws.{occupied-none}
+use Rattle.demand.specs.Made.{Occupied, members, Made, PartOf}
+use Rattle.demand.specs.MadeLaws.{getD-zeros, members-part, members-whole}
+use Rattle.demand.specs.WalkLaws.{Below}
+use Rattle.demand.specs.FillLaws.{Clean, Sized, Filled, fills-of, fills-members, fills-clean, inside}
 use Rattle.demand.specs.TakeLaws.{Taking, greedy-taking, greedy-ends}
 
 -- ---- a clean image
@@ -86,7 +85,7 @@ module _ {table : FunnelTable} {counts words flags marks order : List ℕ} (l : 
 
   end-stuck : (s : ℕ) → s < table .n → ready table counts words flags (end .marks) (end .placed) s ≡ false
   end-stuck s h =
-      greedy-ends table counts words flags (table .n) (table .n) (replicate (table .n) 0) order 0 (length-replicate (table .n) 0) (omega (arith, members-zeros (table .n))) s h
+      greedy-ends table counts words flags (table .n) (table .n) (replicate (table .n) 0) order 0 (length-replicate (table .n) 0) (omega (arith, occupied-none (table .n))) s h
 
   -- ---- parts that some order leaves
 
@@ -102,7 +101,7 @@ module _ {table : FunnelTable} {counts words flags marks order : List ℕ} (l : 
       (record { bits = λ t. (let z = getD-zeros (table .n) t in omega arith); vacant-words = λ t v. getD-zeros (table .n) t })
 
   pub made-members : {words' flags' : List ℕ} → Made table counts words' flags' → members flags' ≤ table .plan .maximum
-  made-members m = fills-members table counts below (filled m .fills) fresh-sized (members-zeros (table .n)) (omega arith)
+  made-members m = fills-members table counts below (filled m .fills) fresh-sized (occupied-none (table .n)) (omega arith)
 
   -- with no more members than the maximum, the placed part contains every part that some order leaves
   pub end-contains : members flags ≤ table .plan .maximum → (words' flags' : List ℕ) → PartOf words' flags' words flags → Made table counts words' flags'

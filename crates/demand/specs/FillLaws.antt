@@ -1,26 +1,27 @@
 -- Laws of insertions one after the other: what they keep, and the main lemma of demand 3. They use of a path only that its slots are
 -- below n and that it does not change. Assumes nothing.
-use mathlib.Core.Bool.{Bool, true, false}
-use mathlib.Core.List.{List, [], _∷_}
+use mathlib.Core.Bool.{false}
+use mathlib.Core.List.{List}
 use mathlib.Core.Path.{_≡_, refl, ap, sym, _∙_}
-use Prim.Native.Nat.{ℕ, zero, suc, _+_, _≤_, _<_}
+use Prim.Native.Nat.{ℕ, _+_, _≤_, _<_}
 use native.Mathlib.Decide.{ℕ-discrete}
 use native.Mathlib.Omega.{arith}
 use lib.ListN.{length, getD, set, length-set}
 use lib.Seq.{getD-set-same, getD-set-other}
 use lib.Dec.{eqb}
-use borrow.Author.Tests.{eq-eqb, eqb-false}
+use borrow.Author.Tests.{eqb-false}
 use Rattle.words.specs.declared.place.Place.{Place}
 use Rattle.funnel.specs.declared.table.FunnelTable.{FunnelTable}
 use Rattle.funnel.specs.declared.table.Search.the-variants.{Vacant}
 use Rattle.funnel.specs.Path.{slotOf}
 use Rattle.funnel.specs.Search.{tablePath, findOf}
-use Rattle.funnel.specs.Insert.{withCount, insertOf}
-use Rattle.funnel.specs.InsertLaws.{find-count}
+use Rattle.funnel.specs.Insert.{Done, withCount}
+use Rattle.funnel.specs.InsertLaws.{find-count, inserted-facts}
 use Rattle.audit.specs.Greedy.{ready}
-use Rattle.audit.specs.ReadyLaws.{Was, inserted-was, ready-by}
+use Rattle.audit.specs.ReadyLaws.{ready-by}
+use Rattle.funnel.specs.FreshLaws.{occupied-set}
 use Rattle.demand.specs.Made.{Occupied, members, Inserts, none, one, PartOf}
-use Rattle.demand.specs.MadeLaws.{getD-set-cases, members-set}
+use Rattle.demand.specs.MadeLaws.{getD-set-cases}
 use Rattle.demand.specs.WalkLaws.{Inside, find-over, find-vacancy, Below, find-below}
 
 -- insertions as searches and stores: the table stays but for its count
@@ -38,14 +39,15 @@ pub fills-of : {table : FunnelTable} {counts : List ℕ} {t t' : FunnelTable} {w
     → Inserts counts t words flags identities slots t' words' flags' → Filled table counts k words flags words' flags'
 fills-of k e none = record { k' = k; fills = still }
 fills-of {table} {counts} {t} {t'} {words} {flags} k e (one {table' = u} {words' = v} {flags' = g} {identity = identity} {slot = slot} probes place h at r) =
-    let w = inserted-was t counts words flags identity probes place u v g h in
+    let w = inserted-facts t counts words flags identity probes place (ap (λ (d : Done). d .answer) h) in
+    let d = sym h ∙ w .result in
     let c : t .count ≡ k = ap (λ (x : FunnelTable). x .count) e in
     let m : t .plan .maximum ≡ table .plan .maximum = ap (λ (x : FunnelTable). x .plan .maximum) e in
-    let s : u ≡ withCount table (k + 1) = w .state ∙ rw e in
+    let s : u ≡ withCount table (k + 1) = ap (λ (x : Done). x .table) d ∙ rw e in
     let f : findOf table counts words flags identity ≡ Vacant probes place = sym (find-count table k counts words flags identity) ∙ ap (λ (x : FunnelTable). findOf x counts words flags identity) (sym e) ∙ w .found in
     let n = fills-of {table = table} {counts = counts} (k + 1) s r in
-    let room : k < table .plan .maximum = omega (arith, w .room) in
-    record { k' = n .k'; fills = store identity slot probes place at f room (go v g slot identity (w .words-are ∙ rw at) (w .flags-are ∙ rw at) (n .fills)) }
+    let room : k < table .plan .maximum = omega (arith, w .left) in
+    record { k' = n .k'; fills = store identity slot probes place at f room (go v g slot identity (ap (λ (x : Done). x .words) d ∙ rw at) (ap (λ (x : Done). x .flags) d ∙ rw at) (n .fills)) }
   where
     go : {k' : ℕ} {words' flags' : List ℕ} (v g : List ℕ) (s identity : ℕ) → v ≡ set words s identity → g ≡ set flags s 1 → Fills table counts (k + 1) v g k' words' flags'
         → Fills table counts (k + 1) (set words s identity) (set flags s 1) k' words' flags'
@@ -82,14 +84,6 @@ module _ (table : FunnelTable) (counts : List ℕ) (below : (identity : ℕ) →
       let v = find-vacancy table counts words flags identity probes place f in
       record { in-words = omega (arith, z .words-n); in-flags = omega (arith, z .flags-n); vacant = rw at at v }
 
-  pub fills-words : {k k' : ℕ} {words flags words' flags' : List ℕ} → Fills table counts k words flags k' words' flags' → length words ≡ table .n → length words' ≡ table .n
-  fills-words still h = h
-  fills-words (store identity s probes place at f room r) h = fills-words r (simp length-set h)
-
-  pub fills-flags : {k k' : ℕ} {words flags words' flags' : List ℕ} → Fills table counts k words flags k' words' flags' → length flags ≡ table .n → length flags' ≡ table .n
-  fills-flags still h = h
-  fills-flags (store identity s probes place at f room r) h = fills-flags r (simp length-set h)
-
   kept : {k k' : ℕ} {words flags words' flags' : List ℕ} → Fills table counts k words flags k' words' flags' → Sized (table .n) words flags → (t : ℕ) → Occupied flags t → Kept words flags words' flags' t
   kept still z t o = record { stays = o; word = refl }
   kept {words = words} {flags = flags} (store identity s probes place at f room r) z t o =
@@ -104,7 +98,7 @@ module _ (table : FunnelTable) (counts : List ℕ) (below : (identity : ℕ) →
   fills-members still z m h = omega arith
   fills-members {k} {flags = flags} (store identity s probes place at f room r) z m h =
       let l = slot-of identity s probes place z at f in
-      fills-members r (sized-set s identity z) (members-set flags s (l .in-flags) (l .vacant) ∙ ap (λ (x : ℕ). x + 1) m) (omega arith)
+      fills-members r (sized-set s identity z) (occupied-set flags s (l .in-flags) (l .vacant) ∙ ap (λ (x : ℕ). x + 1) m) (omega arith)
 
   pub fills-clean : {k k' : ℕ} {words flags words' flags' : List ℕ} → Fills table counts k words flags k' words' flags' → Sized (table .n) words flags → Clean words flags → Clean words' flags'
   fills-clean still z c = c

@@ -1,8 +1,10 @@
+pub mod Examples
 pub mod Crossed
 pub mod Demand
 pub mod EndLaws
 pub mod FillLaws
 pub mod Made
 pub mod MadeLaws
+pub mod RunLaws
 pub mod TakeLaws
 pub mod WalkLaws

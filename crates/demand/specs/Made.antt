@@ -2,13 +2,14 @@
 use mathlib.Core.List.{List, [], _∷_}
 use mathlib.Core.Logic.{_⊎_}
 use mathlib.Core.Path.{_≡_}
-use Prim.Native.Nat.{ℕ, _+_, _<_}
+use Prim.Native.Nat.{ℕ}
 use lib.ListN.{getD, replicate}
 use lib.Dec.{eqb}
 use Rattle.words.specs.Pick.{pick}
 use Rattle.words.specs.declared.place.Place.{Place}
 use Rattle.funnel.specs.declared.table.FunnelTable.{FunnelTable}
 use Rattle.funnel.specs.declared.table.Insertion.the-variants as insertion
+use Rattle.funnel.specs.Fresh.{occupied}
 use Rattle.funnel.specs.Path.{slotOf}
 use Rattle.funnel.specs.Insert.{done, withCount, insertOf}
 
@@ -17,9 +18,8 @@ abbrev pub Occupied : (flags : List ℕ) → ℕ → Type 0
 Occupied flags slot = getD flags slot 0 ≡ 0 → ⊥
 
 -- the number of occupied slots
-unfoldable pub members : (flags : List ℕ) → ℕ
-members [] = 0
-members (flag ∷ flags) = pick (eqb flag 0) 0 1 + members flags
+abbrev pub members : (flags : List ℕ) → ℕ
+members flags = occupied flags
 
 -- Identities inserted one after the other, each answered as inserted, at these slots: from a table with its words and flags to another.
 pub data Inserts (counts : List ℕ) : FunnelTable → (words flags identities slots : List ℕ) → FunnelTable → (words' flags' : List ℕ) → Type 0 where

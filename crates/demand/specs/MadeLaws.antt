@@ -1,15 +1,16 @@
 -- Laws of members and of the words of a placed part. Assumes nothing.
 use mathlib.Core.Bool.{Bool, true, false}
 use mathlib.Core.List.{List, [], _∷_}
-use mathlib.Core.Path.{_≡_, refl, ap, sym, _∙_}
+use mathlib.Core.Path.{_≡_, refl, ap}
 use Prim.Native.Nat.{ℕ, zero, suc, _+_, _≤_, _<_}
 use native.Mathlib.Decide.{ℕ-discrete}
 use native.Mathlib.Omega.{arith}
 use lib.ListN.{length, getD, set, replicate}
-use lib.Seq.{getD-set-same, getD-set-other, ext-getD}
+use lib.Seq.{getD-set-same, getD-set-other}
 use lib.Dec.{eqb}
 use borrow.Author.Tests.{eq-eqb, ne-eqb, eqb-true, eqb-false}
 use Rattle.words.specs.Pick.{pick}
+use Rattle.funnel.specs.Fresh.{occupied}
 use Rattle.demand.specs.Made.{Occupied, members, placedWords}
 
 -- ---- lists of flags
@@ -35,13 +36,8 @@ occupied-below (x ∷ l) (suc t) o = let h = occupied-below l t o in omega arith
 
 -- ---- members
 
-pub members-zeros : (n : ℕ) → members (replicate n 0) ≡ 0
-unfolding members
-members-zeros zero = refl
-members-zeros (suc n) = let r = members-zeros n in omega arith
-
 pub members-most : (l : List ℕ) → members l ≤ length l
-unfolding members
+unfolding occupied
 members-most [] = omega arith
 members-most (x ∷ l) = go (eqb x 0) (members-most l)
   where
@@ -49,16 +45,9 @@ members-most (x ∷ l) = go (eqb x 0) (members-most l)
     go true h = omega arith
     go false h = omega arith
 
--- one more where a vacant slot is set
-pub members-set : (l : List ℕ) (i : ℕ) → i < length l → getD l i 0 ≡ 0 → members (set l i 1) ≡ members l + 1
-unfolding members
-members-set [] i h e = absurd (omega arith)
-members-set (x ∷ l) zero h e = rw (eq-eqb x 0 e) (omega arith)
-members-set (x ∷ l) (suc i) h e = let r = members-set l i (omega arith) e in omega arith
-
 -- a part has no more members, and if it has as many it lacks none
 pub members-part : (a b : List ℕ) → ((t : ℕ) → Occupied a t → Occupied b t) → members a ≤ members b
-unfolding members
+unfolding occupied
 members-part [] b h = omega arith
 members-part (x ∷ a) [] h = go (ℕ-discrete x 0) (members-part a [] (λ t. h (suc t)))
   where
@@ -74,7 +63,7 @@ members-part (x ∷ a) (y ∷ b) h = go (eqb x 0) refl (eqb y 0) refl (members-p
     go false p true q i = absurd (h 0 (eqb-false _ _ p) (eqb-true _ _ q))
 
 pub members-whole : (a b : List ℕ) → ((t : ℕ) → Occupied a t → Occupied b t) → members b ≤ members a → (t : ℕ) → Occupied b t → Occupied a t
-unfolding members
+unfolding occupied
 members-whole a [] h l t o = absurd (o refl)
 members-whole [] (y ∷ b) h l zero o = go (eqb y 0) refl l
   where
@@ -97,12 +86,6 @@ members-whole (x ∷ a) (y ∷ b) h l t o = go (eqb x 0) refl (eqb y 0) refl l t
     go false p false q l (suc t) o ih = ih (omega arith) t o
 
 -- ---- the words of a placed part
-
-pub placed-length : (words marks : List ℕ) → length words ≡ length marks → length (placedWords words marks) ≡ length words
-unfolding placedWords
-placed-length [] marks l = refl
-placed-length (w ∷ words) [] l = absurd (omega arith)
-placed-length (w ∷ words) (m ∷ marks) l = ap suc (placed-length words marks (omega arith))
 
 -- no word where nothing is marked
 pub placed-none : (words : List ℕ) (n : ℕ) → length words ≡ n → placedWords words (replicate n 0) ≡ replicate n 0

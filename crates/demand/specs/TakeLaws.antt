@@ -6,9 +6,9 @@ use Prim.Native.Nat.{ℕ, zero, suc, _+_, _≤_, _<_}
 use native.Mathlib.Numerals.{add-one}
 use native.Mathlib.Omega.{arith}
 use lib.ListN.{length, getD, set, take, drop, replicate, length-set, length-replicate}
-use lib.Seq.{getD-set-same, getD-set-other, take-suc-set, drop-set-lt, drop-drop}
+use lib.Seq.{take-suc-set, drop-set-lt, drop-drop}
 use lib.Dec.{eqb}
-use borrow.Author.Tests.{eqb-true, eqb-false}
+use borrow.Author.Tests.{eqb-false}
 use Rattle.words.specs.Pick.{pick}
 use Rattle.words.specs.declared.place.Place.{Place}
 use Rattle.funnel.specs.declared.table.FunnelTable.{FunnelTable}
@@ -19,13 +19,15 @@ use Rattle.funnel.specs.Search.{tablePath, findOf}
 use Rattle.funnel.specs.Insert.{done, withCount, insertOf}
 use Rattle.audit.specs.declared.slots.First.{First}
 use Rattle.audit.specs.declared.slots.First.the-variants.{At, Nothing}
-use Rattle.funnel.specs.InsertLaws.{find-count}
-use Rattle.audit.specs.Greedy.{firstFrom, ready, Taken, taken, byFirst, greedyOf}
+use Rattle.funnel.specs.InsertLaws.{insert-inserted}
+use Rattle.audit.specs.Greedy.{firstFrom, ready, taken, byFirst, greedyOf}
 use Rattle.audit.specs.FirstLaws.{first-found, first-none}
-use Rattle.audit.specs.ReadyLaws.{Ready, ready-facts, ready-marked, insert-vacant}
-use Rattle.demand.specs.Made.{Occupied, members, Inserts, none, one, LeavesAt, identitiesAt, placedWords}
-use Rattle.demand.specs.MadeLaws.{getD-zeros, getD-set-cases, members-zeros, members-set, members-most, placed-length, placed-none, placed-set, placed-same}
-use Rattle.demand.specs.WalkLaws.{find-same, Below, find-below}
+use Rattle.audit.specs.ReadyLaws.{Ready, ready-facts, ready-marked}
+use Rattle.funnel.specs.Fresh.{occupied}
+use Rattle.funnel.specs.FreshLaws.{occupied-none, occupied-set}
+use Rattle.demand.specs.Made.{Occupied, members, Inserts, none, one, identitiesAt, placedWords}
+use Rattle.demand.specs.MadeLaws.{getD-zeros, getD-set-cases, members-most, placed-none, placed-set, placed-same}
+use Rattle.demand.specs.WalkLaws.{find-same, Below}
 
 -- ---- what holds at each turn holds at the end
 
@@ -87,7 +89,7 @@ module _ (table : FunnelTable) (counts : List ℕ) (below : (identity : ℕ) →
         order-n = refl;
         bits = λ t. (let z = getD-zeros (table .n) t in omega arith);
         part = λ t o. absurd (o (getD-zeros (table .n) t));
-        number = members-zeros (table .n);
+        number = occupied-none (table .n);
         tail = refl;
         built = rw (placed-none words (table .n) sized) none;
       }
@@ -98,17 +100,17 @@ module _ (table : FunnelTable) (counts : List ℕ) (below : (identity : ℕ) →
       ≡ done (insertion.Inserted (r .probes) (r .place)) (withCount table (placed + 1)) (placedWords words (set marks s 1)) (set marks s 1)
   ready-inserts marks placed s l h r =
       let m : length words ≡ length marks = sized ∙ sym l in
-      let f : findOf (withCount table placed) counts (placedWords words marks) marks (getD words s 0) ≡ Vacant (r .probes) (r .place) =
-      find-count table placed counts (placedWords words marks) marks (getD words s 0) ∙ find-same words (placedWords words marks) marks (getD words s 0) (λ t o. placed-same words marks t m o) table counts ∙ r .found in
-      insert-vacant (withCount table placed) counts (placedWords words marks) marks (getD words s 0) (r .probes) (r .place) f (r .room)
-      ∙ rw (r .at, placed-set words marks s (omega arith) m)
+      let f : findOf table counts (placedWords words marks) marks (getD words s 0) ≡ Vacant (r .probes) (r .place) =
+      find-same words (placedWords words marks) marks (getD words s 0) (λ t o. placed-same words marks t m o) table counts ∙ r .found in
+      sym (insert-inserted table placed counts (placedWords words marks) marks (getD words s 0) (r .room) (r .probes) (r .place) s f (sym (r .at)))
+      ∙ rw (placed-set words marks s (omega arith) m)
 
   taking-step : (order₀ : List ℕ) → length order₀ ≡ table .n → (marks order : List ℕ) (placed s : ℕ) → Taking order₀ marks order placed → s < table .n → ready table counts words flags marks placed s ≡ true
       → Taking order₀ (set marks s 1) (set order placed s) (placed + 1)
   taking-step order₀ o marks order placed s t h e =
       let r = ready-facts table counts words flags marks placed s e in
       let l : s < length marks = omega (arith, t .marks-n) in
-      let more = members-set marks s l (r .unmarked) in
+      let more = occupied-set marks s l (r .unmarked) in
       let most = members-most (set marks s 1) in
       let sz : length (set marks s 1) ≡ table .n = simp length-set (t .marks-n) in
       let room : placed < length order = omega (arith, t .order-n, t .number) in
@@ -132,7 +134,7 @@ module _ (table : FunnelTable) (counts : List ℕ) (below : (identity : ℕ) →
 -- ---- the end
 
 members-full : (l : List ℕ) → length l ≤ members l → (t : ℕ) → t < length l → Occupied l t
-unfolding members
+unfolding occupied
 members-full [] h t b = absurd (omega arith)
 members-full (x ∷ l) h zero b = go (eqb x 0) refl h (members-most l)
   where
@@ -163,5 +165,5 @@ greedy-ends table counts words flags n (suc turns) marks order placed l m s h =
         let d = first-found _ 0 n t q in
         let r = ready-facts table counts words flags marks placed t (d .holds) in
         let b : t < length marks = omega (arith, d .below) in
-        let e = members-set marks t b (r .unmarked) in
+        let e = occupied-set marks t b (r .unmarked) in
         ih t (set marks t 1) (simp length-set l) (omega arith) s h

@@ -1,17 +1,16 @@
 -- Laws of walks along one path over two tables: what the walk depends on. Assumes nothing.
 use mathlib.Core.Bool.{Bool, true, false}
 use mathlib.Core.List.{List, [], _∷_}
-use mathlib.Core.Path.{_≡_, refl, sym, _∙_}
+use mathlib.Core.Path.{_≡_, refl, _∙_}
 use Prim.Native.Nat.{ℕ, _+_, _<_}
 use native.Mathlib.Decide.{ℕ-discrete}
 use native.Mathlib.Omega.{arith}
 use lib.ListN.{getD}
 use lib.Dec.{eqb}
-use borrow.Author.Tests.{eq-eqb, ne-eqb, eqb-true, eqb-false}
+use borrow.Author.Tests.{eq-eqb, ne-eqb, eqb-false}
 use Rattle.words.specs.declared.place.Place.{Place}
 use Rattle.funnel.specs.declared.table.FunnelTable.{FunnelTable}
-use Rattle.funnel.specs.declared.table.Search.{Search}
-use Rattle.funnel.specs.declared.table.Search.the-variants.{Hit, Vacant, Full, Range}
+use Rattle.funnel.specs.declared.table.Search.the-variants.{Vacant}
 use Rattle.funnel.specs.Path.{Ending, full, refused, slotOf}
 use Rattle.funnel.specs.Every.{Every}
 use Rattle.funnel.specs.SearchLaws.{walk-vacant, every-reached}

@@ -1,7 +1,7 @@
 -- `audit::pass::take_special` meets its contract. Assumes nothing.
-use Prim.Native.Nat.{_≤_, _-_}
+use Prim.Native.Nat.{_-_}
 use native.Mathlib.Omega.{arith}
-use mathlib.Core.Path.{_≡_, sym, _∙_}
+use mathlib.Core.Path.{sym, _∙_}
 use borrow.Author.Needs.{needs}
 use Rattle.audit.specs.Greedy.{greedyOf}
 use Rattle.audit.specs.FirstLaws.{first-found}

@@ -1,38 +1,42 @@
--- `audit::slots::clear` meets its contract. Assumes nothing.
-use Prim.Native.Nat.{_≤_, _-_}
+-- `audit::slots::clear` meets its contract. The invariant: zeros in front, and behind them the old entries. Assumes nothing.
+use Prim.Native.Nat.{ℕ, _-_, _≤_}
+use mathlib.Core.Path.{_≡_, refl, ap, _∙_}
+use mathlib.Core.List.{List, _++_}
 use native.Mathlib.Omega.{arith}
-use mathlib.Core.Path.{_≡_, refl}
-use lib.ListN.{length}
-use Rattle.audit.specs.CheckLaws.{Clearing, clearing-none, clearing-more, clearing-end}
+use lib.ListN.{length, drop, set, replicate, length-set}
+use borrow.Author.Fill.{fill-more}
+use Rattle.geometry.specs.ZeroLaws.{cleared}
 use Rattle.audit.proofs.slots.clear.Statement.{statement}
 use Rattle.audit.proofs.slots.clear.Tie as tie
 
 abbrev Inv-loop : tie.InvT-loop
-Inv-loop marks₀ n i₀ marks i = (n ≡ length marks₀) × (i ≤ n) × Clearing marks₀ marks i
+Inv-loop marks₀ i₀ marks i = (i ≤ length marks₀) × (length marks ≡ length marks₀) × (marks ≡ replicate i 0 ++ drop i marks₀)
 
 abbrev μ-loop : tie.MeasureT-loop
-μ-loop marks₀ n i₀ marks i = n - i
+μ-loop marks₀ i₀ marks i = length marks - i
 
 loop-holds : tie.Need-loop-holds Inv-loop μ-loop
-loop-holds c = (refl, omega arith, clearing-none _)
+loop-holds c = (omega arith, refl, refl)
 
 slice-write-marks : tie.Need-slice-write-marks Inv-loop μ-loop
-slice-write-marks c = omega (arith, c .before .loop .inv .2 .size)
+slice-write-marks c = omega arith
 
 add-i : tie.Need-add-i Inv-loop μ-loop
-add-i c = omega (arith, c .before .loop .inv .2 .size)
+add-i c = omega arith
 
 loop-less : tie.Need-loop-less Inv-loop μ-loop
-loop-less c = omega (arith, c .before .loop .inv .2 .size)
+loop-less c = simp length-set (omega arith)
 
 loop-again : tie.Need-loop-again Inv-loop μ-loop
-loop-again c = (c .before .loop .inv .0, omega arith, clearing-more (c .before .loop .inv .2) (omega arith))
+loop-again c =
+    let v = c .before .loop .inv in
+    (omega arith, simp length-set (v .1), ap (λ (l : List ℕ). set l (c .before .loop .i) 0) (v .2) ∙ fill-more (c .before .loop .i) 0 (c .before .before .args .marks .now) (omega arith))
 
 same-length : tie.Need-same-length Inv-loop μ-loop
-same-length c = c .before .loop .inv .2 .size
+same-length c = c .before .loop .inv .1
 
 returns : tie.Need-returns Inv-loop μ-loop
-returns c = clearing-end (c .before .loop .inv .2) (omega arith)
+returns c = c .before .loop .inv .2 ∙ cleared _ _ (omega arith) (c .before .loop .inv .0)
 
 pub clear-spec : {M : Type 1} → statement M
 clear-spec =

@@ -1,5 +1,5 @@
 -- `audit::slots::first_unplaced` meets its contract. Assumes nothing.
-use Prim.Native.Nat.{_≤_, _-_}
+use Prim.Native.Nat.{_-_}
 use native.Mathlib.Omega.{arith}
 use mathlib.Core.Path.{_∙_}
 use Rattle.audit.specs.Greedy.{unplaced}
