@@ -2,8 +2,10 @@
 
 use std::time::Instant;
 
-/// How often each side of a row is timed.
-const ROUNDS: usize = 15;
+/// How often each side of a row is timed: less often where one round is long by itself.
+fn rounds(operations: usize) -> usize {
+    if operations > 500_000 { 5 } else { 15 }
+}
 
 pub struct Table {
     wanted: Vec<String>,
@@ -33,7 +35,7 @@ impl Table {
         ours();
         theirs();
         let mut times = [Vec::new(), Vec::new()];
-        for _ in 0..ROUNDS {
+        for _ in 0..rounds(operations) {
             times[0].push(time(&mut ours));
             times[1].push(time(&mut theirs));
         }
@@ -54,7 +56,7 @@ impl Table {
         mut theirs: impl FnMut(&mut B),
     ) {
         let mut times = [Vec::new(), Vec::new()];
-        for round in 0..=ROUNDS {
+        for round in 0..=rounds(operations) {
             ready_ours(our_state);
             ready_theirs(their_state);
             let mine = time(&mut || ours(our_state));
