@@ -1,51 +1,43 @@
+-- `script::elastics::insert_all` meets its contract. Assumes nothing.
+use borrow.Author.Needs.{needs}
+use Prim.Native.Nat.{_-_, _≤_}
+use mathlib.Core.Path.{_≡_}
+use lib.ListN.{length}
 use Rattle.script.proofs.elastics.insert_all.Statement.{statement}
 use Rattle.script.proofs.elastics.insert_all.Tie as tie
-use Rattle.script.proofs.elastics.insert_all.Reads as reads
-use Rattle.script.proofs.elastics.insert_all.Lts as lts
-use Rattle.script.proofs.digest.bulk_identity.Reads as bulk-identity-reads
-use Rattle.script.proofs.elastics.insert_one.Reads as insert-one-reads
 
 abbrev Inv-loop : tie.InvT-loop
-Inv-loop start many counts₀ words₀ flags₀ times₀ now₀ k₀ counts words flags times now k = ?
+Inv-loop start many counts₀ words₀ flags₀ times₀ now₀ k₀ counts words flags times now k = (k ≤ many) × (length words ≡ length words₀) × (length flags ≡ length flags₀)
 
 abbrev μ-loop : tie.MeasureT-loop
-μ-loop start many counts₀ words₀ flags₀ times₀ now₀ k₀ counts words flags times now k = ?
+μ-loop start many counts₀ words₀ flags₀ times₀ now₀ k₀ counts words flags times now k = many - k
 
--- src/elastics.rt:478:5
 loop-holds : tie.Need-loop-holds Inv-loop μ-loop
-loop-holds c = ?
+loop-holds c = search needs
 
--- src/elastics.rt:479:9
 add-k : tie.Need-add-k Inv-loop μ-loop
-add-k c = ?
+add-k c = search needs
 
--- src/elastics.rt:480:26
 bulk-identity-requires : tie.Need-bulk-identity-requires Inv-loop μ-loop
-bulk-identity-requires c κs = ?
+bulk-identity-requires c κs = search needs
 
--- src/elastics.rt:480:9
 insert-one-requires : tie.Need-insert-one-requires Inv-loop μ-loop
-insert-one-requires c κs = ?
+insert-one-requires c κs = search needs
 
--- src/elastics.rt:478:5
 loop-less : tie.Need-loop-less Inv-loop μ-loop
-loop-less c = ?
+loop-less c = search needs
 
--- src/elastics.rt:478:5
 loop-again : tie.Need-loop-again Inv-loop μ-loop
-loop-again c = ?
+loop-again c = search needs
 
--- src/elastics.rt:463:1
 same-length : tie.Need-same-length Inv-loop μ-loop
-same-length c = ?
+same-length c = search needs
 
--- src/elastics.rt:463:1
 same-length-2 : tie.Need-same-length-2 Inv-loop μ-loop
-same-length-2 c = ?
+same-length-2 c = search needs
 
--- src/elastics.rt:463:1
 returns : tie.Need-returns Inv-loop μ-loop
-returns c = ?
+returns c = search needs
 
 pub insert-all-spec : {M : Type 1} → statement M
 insert-all-spec =

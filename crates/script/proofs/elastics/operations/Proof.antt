@@ -1,83 +1,64 @@
+-- `script::elastics::operations` meets its contract. Assumes nothing.
+use borrow.Author.Needs.{needs}
+use Prim.Native.Nat.{_-_, _≤_}
+use mathlib.Core.Path.{_≡_}
+use lib.ListN.{length}
 use Rattle.script.proofs.elastics.operations.Statement.{statement}
 use Rattle.script.proofs.elastics.operations.Tie as tie
-use Rattle.script.proofs.elastics.operations.Reads as reads
-use Rattle.script.proofs.elastics.operations.Lts as lts
-use Rattle.script.proofs.elastics.apply.Reads as apply-reads
-use Rattle.script.proofs.operation.parse.Reads as parse-reads
-use Rattle.text.proofs.field.field_after.Reads as field-after-reads
-use Rattle.text.proofs.field.field_end.Reads as field-end-reads
 
 abbrev Inv-loop : tie.InvT-loop
-Inv-loop line from counts₀ words₀ flags₀ out₀ at now₀ next₀ turns₀ counts words flags out now next turns =
-    ?
+Inv-loop line from counts₀ words₀ flags₀ out₀ at now₀ next₀ turns₀ counts words flags out now next turns = (length words ≡ length words₀) × (length flags ≡ length flags₀) × (length out ≡ length out₀)
 
 abbrev μ-loop : tie.MeasureT-loop
-μ-loop line from counts₀ words₀ flags₀ out₀ at now₀ next₀ turns₀ counts words flags out now next turns =
-    ?
+μ-loop line from counts₀ words₀ flags₀ out₀ at now₀ next₀ turns₀ counts words flags out now next turns = turns
 
--- src/elastics.rt:200:5
 loop-holds : tie.Need-loop-holds Inv-loop μ-loop
-loop-holds c = ?
+loop-holds c = search needs
 
--- src/elastics.rt:202:13
 same-length : tie.Need-same-length Inv-loop μ-loop
-same-length c = ?
+same-length c = search needs
 
--- src/elastics.rt:202:13
 same-length-2 : tie.Need-same-length-2 Inv-loop μ-loop
-same-length-2 c = ?
+same-length-2 c = search needs
 
--- src/elastics.rt:202:13
 same-length-3 : tie.Need-same-length-3 Inv-loop μ-loop
-same-length-3 c = ?
+same-length-3 c = search needs
 
--- src/elastics.rt:202:13
 returns : tie.Need-returns Inv-loop μ-loop
-returns c = ?
+returns c = search needs
 
--- src/elastics.rt:204:13
 field-end-requires : tie.Need-field-end-requires Inv-loop μ-loop
-field-end-requires c κs = ?
+field-end-requires c κs = search needs
 
--- src/elastics.rt:205:21
 parse-requires : tie.Need-parse-requires Inv-loop μ-loop
-parse-requires c κs = ?
+parse-requires c κs = search needs
 
--- src/elastics.rt:205:9
 apply-requires : tie.Need-apply-requires Inv-loop μ-loop
-apply-requires c κs = ?
+apply-requires c κs = search needs
 
--- src/elastics.rt:206:9
 field-after-requires : tie.Need-field-after-requires Inv-loop μ-loop
-field-after-requires c κs = ?
+field-after-requires c κs = search needs
 
--- src/elastics.rt:207:9
 sub-turns : tie.Need-sub-turns Inv-loop μ-loop
-sub-turns c = ?
+sub-turns c = search needs
 
--- src/elastics.rt:200:5
 loop-less : tie.Need-loop-less Inv-loop μ-loop
-loop-less c = ?
+loop-less c = search needs
 
--- src/elastics.rt:200:5
 loop-again : tie.Need-loop-again Inv-loop μ-loop
-loop-again c = ?
+loop-again c = search needs
 
--- src/elastics.rt:186:1
 same-length-4 : tie.Need-same-length-4 Inv-loop μ-loop
-same-length-4 c = ?
+same-length-4 c = search needs
 
--- src/elastics.rt:186:1
 same-length-5 : tie.Need-same-length-5 Inv-loop μ-loop
-same-length-5 c = ?
+same-length-5 c = search needs
 
--- src/elastics.rt:186:1
 same-length-6 : tie.Need-same-length-6 Inv-loop μ-loop
-same-length-6 c = ?
+same-length-6 c = search needs
 
--- src/elastics.rt:186:1
 returns-2 : tie.Need-returns-2 Inv-loop μ-loop
-returns-2 c = ?
+returns-2 c = search needs
 
 pub operations-spec : {M : Type 1} → statement M
 operations-spec =

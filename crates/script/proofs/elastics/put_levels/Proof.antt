@@ -1,63 +1,52 @@
+-- `script::elastics::put_levels` meets its contract. Assumes nothing.
+use borrow.Author.Needs.{needs}
+use Prim.Native.Nat.{_-_, _≤_}
+use mathlib.Core.Path.{_≡_}
+use lib.ListN.{length}
 use Rattle.script.proofs.elastics.put_levels.Statement.{statement}
 use Rattle.script.proofs.elastics.put_levels.Tie as tie
-use Rattle.script.proofs.elastics.put_levels.Reads as reads
-use Rattle.script.proofs.elastics.put_levels.Lts as lts
-use Rattle.script.proofs.elastics.put_level.Reads as put-level-reads
-use Rattle.text.proofs.out.put_byte.Reads as put-byte-reads
 
 abbrev Inv-loop : tie.InvT-loop
-Inv-loop levels counts out₀ at to₀ i₀ out to i = ?
+Inv-loop levels counts out₀ at to₀ i₀ out to i = (i ≤ length counts) × (length out ≡ length out₀)
 
 abbrev μ-loop : tie.MeasureT-loop
-μ-loop levels counts out₀ at to₀ i₀ out to i = ?
+μ-loop levels counts out₀ at to₀ i₀ out to i = length counts - i
 
--- src/elastics.rt:165:9
 put-byte-requires : tie.Need-put-byte-requires Inv-loop μ-loop
-put-byte-requires c κs = ?
+put-byte-requires c κs = search needs
 
--- src/elastics.rt:167:5
 loop-holds : tie.Need-loop-holds Inv-loop μ-loop
-loop-holds c = ?
+loop-holds c = search needs
 
--- src/elastics.rt:169:13
 same-length : tie.Need-same-length Inv-loop μ-loop
-same-length c = ?
+same-length c = search needs
 
--- src/elastics.rt:169:13
 returns : tie.Need-returns Inv-loop μ-loop
-returns c = ?
+returns c = search needs
 
--- src/elastics.rt:171:27
 mul-put-level : tie.Need-mul-put-level Inv-loop μ-loop
-mul-put-level c = ?
+mul-put-level c = search needs
 
--- src/elastics.rt:171:27
 shared-slice-read-put-level : tie.Need-shared-slice-read-put-level Inv-loop μ-loop
-shared-slice-read-put-level c = ?
+shared-slice-read-put-level c = search needs
 
--- src/elastics.rt:171:9
 put-level-requires : tie.Need-put-level-requires Inv-loop μ-loop
-put-level-requires c κs = ?
+put-level-requires c κs = search needs
 
--- src/elastics.rt:172:9
 add-i : tie.Need-add-i Inv-loop μ-loop
-add-i c = ?
+add-i c = search needs
 
--- src/elastics.rt:167:5
 loop-less : tie.Need-loop-less Inv-loop μ-loop
-loop-less c = ?
+loop-less c = search needs
 
--- src/elastics.rt:167:5
 loop-again : tie.Need-loop-again Inv-loop μ-loop
-loop-again c = ?
+loop-again c = search needs
 
--- src/elastics.rt:164:1
 same-length-2 : tie.Need-same-length-2 Inv-loop μ-loop
-same-length-2 c = ?
+same-length-2 c = search needs
 
--- src/elastics.rt:164:1
 returns-2 : tie.Need-returns-2 Inv-loop μ-loop
-returns-2 c = ?
+returns-2 c = search needs
 
 pub put-levels-spec : {M : Type 1} → statement M
 put-levels-spec =
