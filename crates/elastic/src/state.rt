@@ -111,7 +111,7 @@ pub fn state_gate(st: State, counts: &[u64; 32], words: usize, flags: usize) -> 
 }
 
 // The configuration and the limits.
-fn setting_gate(n: u64, e: u32, limits: Limits) -> Gated
+pub fn setting_gate(n: u64, e: u32, limits: Limits) -> Gated
     ensures { λ r. ⌜ r ≡ settingGate n e limits ⌝ }
 {
     match config_gate(n, e) {

@@ -2,6 +2,7 @@
 //
 //     layouts.rt     EL FL
 //     probes.rt      MIX EP FP EW FW ER FR PHI PHB PHINV BUD
+//     elastics.rt    ERUN EBULK
 //     funnels.rt     FRUN FBULK
 //     operation.rt   the operations of a run
 //     digest.rt      what runs share: a table's digest, the identities of a bulk run, refusals by number
@@ -9,6 +10,7 @@
 //
 // It stands apart from the program so that it is proved once and not again with each change of the program.
 pub mod digest;
+pub mod elastics;
 pub mod funnels;
 pub mod layouts;
 pub mod operation;
@@ -28,6 +30,12 @@ pub fn command(line: &[u8], out: &mut [u8], at: usize) -> usize {
     }
     if is_word(line, 0, end, b"FL") {
         return layouts::funnel(line, args, out, at);
+    }
+    if is_word(line, 0, end, b"ERUN") {
+        return elastics::run(line, args, out, at);
+    }
+    if is_word(line, 0, end, b"EBULK") {
+        return elastics::bulk(line, args, out, at);
     }
     if is_word(line, 0, end, b"FRUN") {
         return funnels::run(line, args, out, at);

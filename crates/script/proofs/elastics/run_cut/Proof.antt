@@ -1,0 +1,60 @@
+-- `script::elastics::run_cut` meets its contract. Assumes nothing.
+use borrow.Author.Needs.{needs}
+use lib.ListN.{length-take}
+use native.Mathlib.Omega.{arith}
+use lib.ListN.{length}
+use Rattle.script.proofs.elastics.run_cut.Statement.{statement}
+use Rattle.script.proofs.elastics.run_cut.Tie as tie
+
+array-read-n : tie.Need-array-read-n
+array-read-n c = search needs
+
+returns : tie.Need-returns
+returns c = search needs
+
+returns-2 : tie.Need-returns-2
+returns-2 c = search needs
+
+slice-relend-prefix-run-in : tie.Need-slice-relend-prefix-run-in
+slice-relend-prefix-run-in c = search needs
+
+slice-aggregate-run-in : tie.Need-slice-aggregate-run-in
+slice-aggregate-run-in c = simp length-take (omega arith)
+
+slice-relend-prefix-run-in-2 : tie.Need-slice-relend-prefix-run-in-2
+slice-relend-prefix-run-in-2 c = search needs
+
+slice-aggregate-run-in-2 : tie.Need-slice-aggregate-run-in-2
+slice-aggregate-run-in-2 c = simp length-take (omega arith)
+
+run-in-requires : tie.Need-run-in-requires
+run-in-requires c κs = search needs
+
+same-length : tie.Need-same-length
+same-length c = search needs
+
+same-length-2 : tie.Need-same-length-2
+same-length-2 c = search needs
+
+same-length-3 : tie.Need-same-length-3
+same-length-3 c = search needs
+
+returns-3 : tie.Need-returns-3
+returns-3 c = search needs
+
+pub run-cut-spec : {M : Type 1} → statement M
+run-cut-spec =
+    tie.close
+    (tie.spec
+    array-read-n
+    returns
+    returns-2
+    slice-relend-prefix-run-in
+    slice-aggregate-run-in
+    slice-relend-prefix-run-in-2
+    slice-aggregate-run-in-2
+    run-in-requires
+    same-length
+    same-length-2
+    same-length-3
+    returns-3)
