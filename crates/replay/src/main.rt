@@ -5,7 +5,7 @@
 // A line that is no command prints `?`. A line longer than 524,288 bytes, or a table of more than 65,536 slots, is more
 // than this program holds, and prints `L`.
 
-use script_images::command;
+use script::command;
 use text::line::Gathered;
 use text::line::gather;
 use text::out::flush;
