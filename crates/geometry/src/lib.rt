@@ -10,7 +10,7 @@
 //     funnel.rt    the plan of a funnel: its gate (1 to 5), its numbers, its counts; whether given numbers are that plan
 //     special.rt   the special length s: the largest of its range, and a test of it without a division
 //     counts.rt    the bucket counts of the levels, each the largest that leaves a sum that can be met
-//     counts_test.rt   a test of the counts by one walk from their end, some forty times faster than computing them
+//     counts_test.rt   a test of the counts by one walk from their end, which is much cheaper than computing them
 //
 // What a plan is stands in specs/Funnel.antt (with Special.antt and Counts.antt), what callers may lean on in FunnelLaws.antt,
 // PartLaws.antt and FunnelGateLaws.antt.
