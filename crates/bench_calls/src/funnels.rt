@@ -71,8 +71,9 @@ pub extern "C" fn bench_place_all(
     match place_all(table_of(state), counts, words, flags, identities, slots) {
         PlaceAnswer::Gate(_) => false,
         PlaceAnswer::Done(done) => {
+            let answer = done.answer;
             state[4] = done.table.count;
-            is_all(done.answer)
+            is_all(answer)
         }
     }
 }
@@ -106,8 +107,9 @@ pub extern "C" fn bench_insert(
     match insert(table_of(state), counts, words, flags, identity) {
         InsertAnswer::Gate(_) => false,
         InsertAnswer::Done(step) => {
+            let answer = step.answer;
             state[4] = step.table.count;
-            is_inserted(step.answer)
+            is_inserted(answer)
         }
     }
 }

@@ -1,3 +1,4 @@
+pub mod CaseLaws
 pub mod Examples
 pub mod Insert
 pub mod InsertLaws

@@ -2,6 +2,7 @@ pub mod CallLaws
 pub mod Calls
 pub mod Every
 pub mod EveryLaws
+pub mod Examples
 pub mod FindLaws
 pub mod Fresh
 pub mod FreshLaws

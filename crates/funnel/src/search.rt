@@ -6,7 +6,7 @@ ghost use Rattle.probe.specs.Counter.{levelOf, funnelCounterOf};
 ghost use Rattle.probe.specs.Range.{drawOf};
 ghost use Rattle.funnel.specs.Path.{levelsFrom, primaryFrom, fallbackOf};
 ghost use Rattle.funnel.specs.Search.{searchOf, findOf};
-ghost use Rattle.funnel.specs.Valid.{Valid, Keyed, SpecialRoom};
+ghost use Rattle.funnel.specs.Valid.{Valid, Keyed, SpecialRoom, Drawable, DrawnAhead};
 use crate::scan::read;
 use crate::scan::scan;
 use crate::scan::scan_pairs;
@@ -18,6 +18,7 @@ use probe::range::Drawn;
 use probe::range::funnel_draw;
 use probe::word::FunnelKey;
 use probe::word::funnel_key;
+use refusal::RangeRefusal;
 use words::place::GlobalSlot;
 use words::place::Place;
 
@@ -63,26 +64,40 @@ fn search_levels(
     let mut level = 0;
     let mut start = 0;
     let mut probes = 0;
+    let mut drawn = draw_level(key, counts, alpha, 0, table.word_cap);
     while level < alpha {
-        let count = counts[level as usize];
-        let cap = table.word_cap;
-        match sample(key, Domain::Ordinary { level }, 0, count, cap) {
+        match drawn {
             Drawn::Refused(refusal) => {
                 return Search::Range(refusal);
             }
             Drawn::Index { index, words: _ } => {
+                // The next level's bucket is drawn before this one is read, so that it is at hand when this one is full.
+                let ahead = draw_level(key, counts, alpha, level + 1, table.word_cap);
                 let from = start + index * beta;
                 let found = scan(words, flags, identity, level, index, from, beta, probes);
                 let Search::Full { probes: read } = found else {
                     return found;
                 };
                 probes = read;
+                drawn = ahead;
             }
         }
-        start += count * beta;
+        start += counts[level as usize] * beta;
         level += 1;
     }
     Search::Full { probes }
+}
+
+// The draw of a level's bucket, where there is such a level.
+fn draw_level(key: FunnelKey, counts: &[u64; 118], alpha: u64, level: u64, cap: u64) -> Drawn
+    requires { ⌜ Drawable alpha cap (now counts) ⌝ }
+    ensures { λ r. ⌜ DrawnAhead key (now (counts .entry)) alpha cap level r ⌝ }
+{
+    if alpha <= level {
+        return Drawn::Refused(RangeRefusal { words: 0 });
+    }
+    let count = counts[level as usize];
+    sample(key, Domain::Ordinary { level }, 0, count, cap)
 }
 
 // "then g primary probes", among the primary slots from `start` on, with some probes made before

@@ -19,7 +19,7 @@ use Rattle.funnel.specs.Valid.{Valid}
 use Rattle.funnel.specs.declared.table.FunnelTable.{FunnelTable}
 use Rattle.image.specs.Calls.{writeGate, writeImageOf, loadings, loadedOf, loadImageOf}
 use Rattle.image.specs.Format.{labelMost}
-use Rattle.image.specs.Loading.{Loads, loads, loadOf}
+use Rattle.image.specs.Loading.{loads, loadOf}
 use Rattle.image.specs.TestLaws.{cases}
 use Rattle.image.specs.Writing.{Writes, writes, writeOf}
 use Rattle.image.specs.declared.calls.Loaded.{Loaded}

@@ -2,18 +2,16 @@
 use mathlib.Core.Path.{_≡_, refl, ap, sym, _∙_}
 use mathlib.Core.Bool.{Bool, true, false}
 use mathlib.Core.List.{List, [], _∷_, _++_}
-use Prim.Native.Nat.{ℕ, zero, suc, _+_, _*_, _/_, _<_, _≤_}
+use Prim.Native.Nat.{ℕ, zero, suc, _+_, _*_, _/_, _≤_}
 use native.Mathlib.Omega.{arith}
-use lib.ListN.{length, getD, length-append}
-use lib.Dec.{eqb, ltb, leb}
-use borrow.Author.Tests.{eqb-true, ltb-true, ltb-false, leb-true}
+use lib.ListN.{length, length-append}
+use lib.Dec.{eqb}
 use Rattle.words.specs.Bytes.{numAt}
 use Rattle.words.specs.Pick.{pick}
 use Rattle.image.specs.Format.{Entry, entrySize}
-use Rattle.image.specs.Reading.{rightTag, rightLength, lowAfter, frameOf, entriesAt, rising, floorAfter, Seen, told, rightContent}
+use Rattle.image.specs.Reading.{lowAfter, entriesAt, rising, floorAfter, Seen, told, rightContent}
 use Rattle.image.specs.Cursor.{cursor, cursorOf, riseOf, contentOf, tookOf}
 use Rattle.image.specs.TestLaws.{cases}
-use Rattle.image.specs.declared.field.Framed.the-variants.{Wrong, Field}
 use Rattle.image.specs.declared.reader.Content.the-variants.{Off, Right}
 use Rattle.image.specs.declared.reader.Cursor.{Cursor}
 

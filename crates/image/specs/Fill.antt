@@ -3,7 +3,7 @@ use mathlib.Core.Path.{_≡_}
 use mathlib.Core.Bool.{Bool, true, false}
 use mathlib.Core.List.{List, [], _∷_}
 use Prim.Native.Nat.{ℕ, _≤_}
-use lib.ListN.{length, set}
+use lib.ListN.{set}
 use Rattle.image.specs.Format.{Entry}
 use Rattle.image.specs.Reading.{Reading, bad, good, rising}
 

@@ -2,9 +2,9 @@
 use mathlib.Core.Path.{_≡_, refl, ap, sym, _∙_}
 use mathlib.Core.Bool.{true}
 use mathlib.Core.List.{List}
-use Prim.Native.Nat.{ℕ, _+_, _≤_, min}
+use Prim.Native.Nat.{ℕ, _≤_}
 use native.Mathlib.Omega.{arith}
-use lib.ListN.{length, take, drop, replicate, length-take, length-replicate}
+use lib.ListN.{length, take, drop, length-take, length-replicate}
 use Rattle.words.specs.Bytes.{Bytes}
 use Rattle.geometry.specs.declared.config.Gated.{Gated}
 use Rattle.geometry.specs.declared.config.Gated.the-variants.{Passed, Refused}
@@ -15,13 +15,11 @@ use Rattle.funnel.specs.Valid.{Valid}
 use Rattle.funnel.specs.declared.table.FunnelTable.{FunnelTable}
 use Rattle.image.specs.CallLaws.{gate-short, Writable, gate-writable}
 use Rattle.image.specs.Calls.{writeGate, writeBy, writeImageOf, Loadings, loadings, loadedOf, loadBy, loadImageOf}
-use Rattle.image.specs.Fill.{fillWords, fillFlags}
 use Rattle.image.specs.FillLaws.{length-fill-words, length-fill-flags}
 use Rattle.image.specs.Format.{labelMost, entriesOf}
 use Rattle.image.specs.Loading.{Loads, loads, loadOf}
 use Rattle.image.specs.Reading.{rising}
 use Rattle.image.specs.Writing.{Writes, writes, onto, writeOf}
-use Rattle.image.specs.declared.calls.Loaded.{Loaded}
 use Rattle.image.specs.declared.calls.Loaded.the-variants as loaded
 use Rattle.image.specs.declared.loader.Filled.{Filled}
 use Rattle.image.specs.declared.loader.Filled.the-variants as filled

@@ -5,7 +5,7 @@ use Prim.Native.Nat.{ℕ}
 use lib.ListN.{length, take, set}
 use Rattle.words.specs.Bytes.{bytesOf, numAt}
 use Rattle.image.specs.Format.{entry, fieldOf, labelField, bodyOf, entryFields, fieldsFor, imageOf}
-use Rattle.image.specs.Reading.{rankOf, rightTag, rightLength, lowAfter, frameOf, entriesAt, rising, floorAfter, seen, told, rightContent, Reading, bad, good, endOf, fieldThen, readFrom, readOf}
+use Rattle.image.specs.Reading.{rankOf, rightTag, rightLength, lowAfter, frameOf, entriesAt, rising, floorAfter, seen, told, rightContent, bad, good, endOf, fieldThen, readFrom, readOf}
 
 -- "N. (144,3), seed 0, identities 7 and 9, no label: 75 image bytes, starting 01 08 00 90."
 abbrev caseN : List ℕ

@@ -1,7 +1,7 @@
 -- The two round trips, over the definitions that the writer and the loader are proved to follow. Assumes nothing.
 use mathlib.Core.Path.{_≡_, refl, ap, sym, _∙_}
 use mathlib.Core.Bool.{Bool, true, false}
-use mathlib.Core.List.{List, [], _∷_, _++_}
+use mathlib.Core.List.{List, _∷_}
 use Prim.Native.Nat.{ℕ, zero, suc, _+_, _<_, _≤_, _^_}
 use native.Mathlib.Omega.{arith}
 use lib.ListN.{length, getD, take, drop, replicate}
@@ -15,14 +15,12 @@ use Rattle.image.specs.DirtyLaws.{entries-most}
 use Rattle.image.specs.Fill.{fillWords, fillFlags}
 use Rattle.image.specs.Format.{Entry, entry, labelMost, entriesFrom, entriesOf, imageOf}
 use Rattle.image.specs.Loading.{Loads, loads, ofTable, loadGood, loadAfter, loadOf}
-use Rattle.image.specs.Reading.{rising, Seen, seen, Reading, bad, good, readOf}
-use Rattle.image.specs.TestLaws.{cases, not-both}
+use Rattle.image.specs.Reading.{rising, Seen, Reading, bad, good, readOf}
+use Rattle.image.specs.TestLaws.{not-both}
 use Rattle.image.specs.Writing.{Writes, writes, onto, writeAfter, writeOf}
 use Rattle.image.specs.declared.dirty.Scan.{Scan}
 use Rattle.image.specs.declared.dirty.Scan.the-variants.{Dirty, Clean}
-use Rattle.image.specs.declared.loader.Filled.{Filled}
 use Rattle.image.specs.declared.loader.Filled.the-variants as filled
-use Rattle.image.specs.declared.writer.Written.{Written}
 use Rattle.image.specs.declared.writer.Written.the-variants as written
 use Rattle.image_laws.specs.ReadAfterWrite.{Fit, none, one, Valid, labelPlace, read-after-write}
 use Rattle.image_laws.specs.TableLaws.{fill-words-entries, fill-flags-entries, entries-rise, entries-filled, scan-filled}

@@ -2,20 +2,19 @@
 use mathlib.Core.Path.{_≡_, refl, ap, sym, _∙_}
 use mathlib.Core.Bool.{Bool, true, false}
 use mathlib.Core.List.{List, [], _∷_, _++_, append-nil}
-use Prim.Native.Nat.{ℕ, zero, suc, _+_, _-_, _<_, _≤_, _^_}
+use Prim.Native.Nat.{ℕ, zero, suc, _+_, _<_, _≤_}
 use native.Mathlib.Omega.{arith}
-use lib.ListN.{length, getD, take, drop, set, replicate, length-set, length-replicate, getD-replicate, List·getD-eq-default}
+use lib.ListN.{length, getD, take, set, replicate, length-set, length-replicate, getD-replicate, List·getD-eq-default}
 use lib.Seq.{take-suc, take-all, append-snoc, set-at, length-take-le, getD-set-same, getD-set-other}
-use lib.Dec.{eqb, ltb, leb}
-use borrow.Author.Tests.{eqb-true, eqb-false, eq-eqb, ne-eqb, ltb-true, ltb-false, leb-true, le-leb, lt-ltb, le-ltb}
+use lib.Dec.{eqb, ltb}
+use borrow.Author.Tests.{eqb-true, eqb-false, ltb-true, ltb-false, le-leb, lt-ltb}
 use Rattle.words.specs.Pick.{pick}
 use Rattle.image.specs.Dirty.{dirty, scanFrom, scanOf}
 use Rattle.image.specs.Fill.{fillWords, fillFlags}
-use Rattle.image.specs.FillLaws.{RisenHead, risen-head, length-fill-words, length-fill-flags}
+use Rattle.image.specs.FillLaws.{risen-head, length-fill-flags}
 use Rattle.image.specs.Format.{Entry, entry, entriesFrom, entriesOf}
 use Rattle.image.specs.Reading.{rising}
 use Rattle.image.specs.TestLaws.{cases, not-both}
-use Rattle.image.specs.declared.dirty.Scan.{Scan}
 use Rattle.image.specs.declared.dirty.Scan.the-variants.{Dirty, Clean}
 
 -- ---- a clean slot

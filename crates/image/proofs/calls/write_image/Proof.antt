@@ -1,6 +1,6 @@
 -- `image::calls::write_image` meets its contract. Assumes nothing.
 use denote.Ref.{now}
-use mathlib.Core.Path.{_≡_, sym, _∙_}
+use mathlib.Core.Path.{sym, _∙_}
 use native.Mathlib.Omega.{arith}
 use Rattle.image.specs.CallLaws.{gate-writable, write-refused, write-passed}
 use borrow.Author.Needs.{needs}

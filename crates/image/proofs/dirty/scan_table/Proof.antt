@@ -3,8 +3,7 @@ use Rattle.image.specs.DirtyLaws.{Scanning, scan-none, scan-flag, scan-w
 use lib.ListN.{length}
 use borrow.Author.Needs.{needs}
 use native.Mathlib.Omega.{arith}
-use mathlib.Core.Path.{_≡_, sym, _∙_, ap}
-use Prim.Native.Nat.{ℕ, _+_, _*_, _-_, _≤_, _<_}
+use Prim.Native.Nat.{_-_}
 use Rattle.image.proofs.dirty.scan_table.Statement.{statement}
 use Rattle.image.proofs.dirty.scan_table.Tie as tie
 

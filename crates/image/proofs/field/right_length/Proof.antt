@@ -1,5 +1,5 @@
 -- `image::field::right_length` meets its contract. Assumes nothing.
-use borrow.Author.Tests.{lt-ltb, le-ltb, le-leb, lt-leb, eq-eqb, ne-eqb, not-true, not-false}
+use borrow.Author.Tests.{le-leb, lt-leb, eq-eqb, ne-eqb}
 use Rattle.image.specs.Reading.{rightLength}
 use Rattle.image.proofs.field.right_length.Statement.{statement}
 use Rattle.image.proofs.field.right_length.Tie as tie

@@ -2,11 +2,9 @@
 -- The measure is their number. Assumes nothing.
 use Rattle.image.specs.Format.{entrySize}
 use Rattle.image.specs.FillLaws.{Filling, filling-none, filling-slot, filling-more, filling-end}
-use lib.ListN.{length, length-set}
-use borrow.Author.Needs.{needs}
+use lib.ListN.{length}
 use native.Mathlib.Omega.{arith}
-use mathlib.Core.Path.{_≡_, sym, _∙_, ap}
-use Prim.Native.Nat.{ℕ, _+_, _*_, _-_, _≤_, _<_}
+use Prim.Native.Nat.{_+_, _*_, _≤_}
 use Rattle.image.proofs.loader.fill_field.Statement.{statement}
 use Rattle.image.proofs.loader.fill_field.Tie as tie
 

@@ -4,8 +4,8 @@ use Rattle.image.specs.LoadingLaws.{Onward, onward-none, onward-wrong, o
 use lib.ListN.{length}
 use borrow.Author.Needs.{needs}
 use native.Mathlib.Omega.{arith}
-use mathlib.Core.Path.{_≡_, sym, _∙_, ap}
-use Prim.Native.Nat.{ℕ, _+_, _*_, _-_, _≤_, _<_}
+use mathlib.Core.Path.{sym, _∙_}
+use Prim.Native.Nat.{_-_}
 use Rattle.image.proofs.loader.fill_image.Statement.{statement}
 use Rattle.image.proofs.loader.fill_image.Tie as tie
 

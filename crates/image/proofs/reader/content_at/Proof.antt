@@ -3,7 +3,7 @@ use Rattle.image.specs.Cursor.{contentOf}
 use Rattle.image.specs.FrameLaws.{len-6}
 use borrow.Author.Tests.{eq-eqb, ne-eqb}
 use native.Mathlib.Omega.{arith}
-use mathlib.Core.Path.{_≡_, sym, _∙_, ap}
+use mathlib.Core.Path.{sym, _∙_}
 use borrow.Author.Needs.{needs}
 use Rattle.image.proofs.reader.content_at.Statement.{statement}
 use Rattle.image.proofs.reader.content_at.Tie as tie

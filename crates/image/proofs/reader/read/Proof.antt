@@ -6,8 +6,8 @@ use Rattle.image.specs.Cursor.{outcomeOf}
 use lib.ListN.{length}
 use borrow.Author.Needs.{needs}
 use native.Mathlib.Omega.{arith}
-use mathlib.Core.Path.{_≡_, sym, _∙_, ap}
-use Prim.Native.Nat.{ℕ, _+_, _*_, _-_, _≤_, _<_}
+use mathlib.Core.Path.{sym, _∙_, ap}
+use Prim.Native.Nat.{_-_}
 use Rattle.image.proofs.reader.read.Statement.{statement}
 use Rattle.image.proofs.reader.read.Tie as tie
 

@@ -2,8 +2,7 @@
 use Rattle.image.specs.RiseLaws.{Rises, rises-none, rises-low, rises-high, rises-more, rises-end}
 use lib.ListN.{length}
 use native.Mathlib.Omega.{arith}
-use mathlib.Core.Path.{_≡_, sym, _∙_, ap}
-use Prim.Native.Nat.{ℕ, _+_, _*_, _-_, _≤_, _<_}
+use Prim.Native.Nat.{_+_, _*_, _≤_}
 use Rattle.image.proofs.reader.rise.Statement.{statement}
 use Rattle.image.proofs.reader.rise.Tie as tie
 

@@ -2,8 +2,7 @@
 use Rattle.image.specs.DirtyLaws.{count-is, count-most}
 use Rattle.image.specs.ImageLaws.{entries-whole}
 use Rattle.image.specs.WritingLaws.{writes-dirty, writes-room, writes-done}
-use denote.Ref.{now}
-use mathlib.Core.Path.{_≡_, sym, _∙_, ap}
+use mathlib.Core.Path.{sym, _∙_}
 use native.Mathlib.Omega.{arith}
 use borrow.Author.Needs.{needs}
 use Rattle.image.proofs.writer.write.Statement.{statement}

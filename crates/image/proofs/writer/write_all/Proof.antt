@@ -1,5 +1,4 @@
 -- `image::writer::write_all` meets its contract: six parts, each after the one before. Assumes nothing.
-use mathlib.Core.Path.{_≡_}
 use native.Mathlib.Omega.{arith}
 use denote.Ref.{now}
 use borrow.Author.Needs.{needs}

@@ -4,8 +4,7 @@ use lib.Seq.{length-sets}
 use lib.ListN.{length}
 use borrow.Author.Needs.{needs}
 use native.Mathlib.Omega.{arith}
-use mathlib.Core.Path.{_≡_, sym, _∙_, ap}
-use Prim.Native.Nat.{ℕ, _+_, _*_, _-_, _≤_, _<_}
+use mathlib.Core.Path.{ap}
 use Rattle.image.proofs.writer.write_fields.Statement.{statement}
 use Rattle.image.proofs.writer.write_fields.Tie as tie
 

@@ -1,6 +1,6 @@
 -- `image::writer::write_head` meets its contract. Assumes nothing.
 use lib.ListN.{length}
-use mathlib.Core.Path.{_≡_, sym, _∙_, ap}
+use mathlib.Core.Path.{_∙_, ap}
 use lib.Seq.{length-sets}
 use lib.ListN.{length-set}
 use native.Mathlib.Numerals.{add-one}

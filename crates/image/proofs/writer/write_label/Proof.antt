@@ -1,6 +1,5 @@
 -- `image::writer::write_label` meets its contract. Assumes nothing.
 use Rattle.image.specs.ImageLaws.{put-none, put-label}
-use native.Mathlib.Omega.{arith}
 use borrow.Author.Needs.{needs}
 use Rattle.image.proofs.writer.write_label.Statement.{statement}
 use Rattle.image.proofs.writer.write_label.Tie as tie
