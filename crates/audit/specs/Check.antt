@@ -1,6 +1,7 @@
 -- The check of an image: what it answers, and what it leaves in marks and order. Assumes nothing.
 use mathlib.Core.Bool.{Bool, true, false}
 use mathlib.Core.List.{List, [], _∷_}
+use mathlib.Core.Path.{_≡_}
 use Prim.Native.Nat.{ℕ}
 use lib.ListN.{length, getD, replicate}
 use lib.Dec.{eqb, ltb}
@@ -11,6 +12,7 @@ use Rattle.geometry.specs.declared.config.Gated.{Gated}
 use Rattle.geometry.specs.declared.config.Gated.the-variants.{Passed, Refused}
 use Rattle.funnel.specs.declared.table.FunnelTable.{FunnelTable}
 use Rattle.funnel.specs.Calls.{gateThen, lengthsThen, tableGate}
+use Rattle.funnel.specs.Valid.{Valid}
 use Rattle.audit.specs.declared.check.Checked.{Checked}
 use Rattle.audit.specs.declared.check.Checked.the-variants as checked
 use Rattle.audit.specs.declared.slots.First.{First}
@@ -67,6 +69,12 @@ checkBy Passed marks order next = next
 unfoldable pub checkOf : FunnelTable → (counts words flags marks order : List ℕ) → Ended
 checkOf table counts words flags marks order =
     checkBy (checkGate table counts (length words) (length flags) (length marks) (length order)) marks order (auditOf table counts words flags marks order)
+
+-- a call past STATE: the state is valid, and marks and order are n long
+pub record Lent (table : FunnelTable) (counts words flags marks order : List ℕ) : Type 0 where
+  pub valid : Valid table counts words flags
+  pub marks-n : length marks ≡ table .n
+  pub order-n : length order ≡ table .n
 
 -- what the check reports: this paper's number, 0 where there is none, and the values
 abbrev pub reportOf : Checked → Report

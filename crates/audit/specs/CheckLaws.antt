@@ -15,12 +15,11 @@ use Rattle.geometry.specs.declared.config.Gated.the-variants.{Passed, Refused}
 use Rattle.funnel.specs.declared.table.FunnelTable.{FunnelTable}
 use Rattle.funnel.specs.Calls.{gateThen, lengthsThen, tableGate}
 use Rattle.funnel.specs.CallLaws.{lengths-words, lengths-flags, lengths-pass, gate-valid, valid-gate}
-use Rattle.funnel.specs.Valid.{Valid}
 use Rattle.audit.specs.declared.check.Checked.the-variants as checked
 use Rattle.audit.specs.declared.slots.First.{First}
 use Rattle.audit.specs.declared.slots.First.the-variants.{At, Nothing}
 use Rattle.audit.specs.Greedy.{firstFrom, unplaced, taken, greedyOf}
-use Rattle.audit.specs.Check.{dirtyAt, Ended, ended, answerOf, endOf, takeAll, auditOf, checkGate, checkOf}
+use Rattle.audit.specs.Check.{dirtyAt, Ended, ended, answerOf, endOf, takeAll, auditOf, checkGate, checkOf, Lent}
 
 -- ---- a dirty slot
 
@@ -83,12 +82,7 @@ module _ (table : FunnelTable) (counts : List ℕ) (words flags marks order : �
     unfolding checkGate
     check-gate-pass m o = rw passes (lengths-pass (table .n) marks order Passed m o)
 
--- a state that passes is valid, and the lent buffers are n long
-pub record Lent (table : FunnelTable) (counts words flags marks order : List ℕ) : Type 0 where
-  pub valid : Valid table counts words flags
-  pub marks-n : length marks ≡ table .n
-  pub order-n : length order ≡ table .n
-
+-- what passes is valid, and what is valid passes
 module _ (table : FunnelTable) (counts words flags marks order : List ℕ) where
   pub gate-lent : checkGate table counts (length words) (length flags) (length marks) (length order) ≡ Passed → Lent table counts words flags marks order
   unfolding checkGate lengthsThen

@@ -7,16 +7,9 @@ use native.Mathlib.Nat.{eq-or-lt-of-le}
 use native.Mathlib.Omega.{arith}
 use Rattle.words.specs.Pick.{pick}
 use Rattle.audit.specs.declared.slots.First.the-variants.{At, Nothing}
-use Rattle.audit.specs.Greedy.{firstFrom}
+use Rattle.audit.specs.Greedy.{firstFrom, Found}
 
 -- ---- what the answer says
-
--- in the range, it passes, and none before it does
-pub record Found (test : ℕ → Bool) (from k s : ℕ) : Type 0 where
-  pub least : from ≤ s
-  pub below : s < from + k
-  pub holds : test s ≡ true
-  pub before : (t : ℕ) → from ≤ t → t < s → test t ≡ false
 
 pub first-found : (test : ℕ → Bool) (from k s : ℕ) → firstFrom test from k ≡ At s → Found test from k s
 unfolding firstFrom

@@ -19,15 +19,14 @@ use Rattle.audit.specs.declared.check.Checked.the-variants as checked
 use Rattle.audit.specs.declared.slots.First.{First}
 use Rattle.audit.specs.declared.slots.First.the-variants.{At, Nothing}
 use Rattle.audit.specs.Greedy.{firstFrom, unplaced, ready}
-use Rattle.audit.specs.Check.{Ended, endOf, takeAll, auditOf, checkOf}
-use Rattle.audit.specs.CheckLaws.{Lent, check-audit}
+use Rattle.audit.specs.Check.{Lent, Ended, endOf, takeAll, auditOf, checkOf}
+use Rattle.audit.specs.CheckLaws.{check-audit}
 use Rattle.audit.specs.FirstLaws.{first-none}
 use Rattle.audit.specs.ReadyLaws.{ready-facts, unplaced-yes}
-use Rattle.demand.specs.Made.{Occupied, Before}
+use Rattle.demand.specs.Made.{Clean, Occupied, Before}
 use Rattle.demand.specs.MadeLaws.{getD-zeros, occupied-below}
 use Rattle.demand.specs.TakeLaws.{greedy-keeps}
 use Rattle.demand.specs.EndLaws.{end, image-clean}
-use Rattle.demand.specs.FillLaws.{Clean}
 
 -- a walk that comes to a vacant slot b before a does not end vacant at a
 walk-blocked : (words flags : List ℕ) (identity a b j : ℕ) (at : Place) → (a ≡ b → ⊥) → getD flags b 0 ≡ 0 → slotOf at ≡ a → (places : List Place) (ending : Ending) (k : ℕ) → Before b a places

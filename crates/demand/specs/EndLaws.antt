@@ -16,15 +16,15 @@ use Rattle.audit.specs.declared.check.Checked.the-variants as checked
 use Rattle.audit.specs.declared.slots.First.{First}
 use Rattle.audit.specs.declared.slots.First.the-variants.{At, Nothing}
 use Rattle.audit.specs.Greedy.{firstFrom, unplaced, ready, Taken, greedyOf}
-use Rattle.audit.specs.Check.{dirtyAt, Ended, ended, answerOf, endOf, takeAll, unlessDirty, auditOf, checkOf}
-use Rattle.audit.specs.CheckLaws.{Lent, check-audit, clean-vacant, clean-flag}
+use Rattle.audit.specs.Check.{Lent, dirtyAt, Ended, ended, answerOf, endOf, takeAll, unlessDirty, auditOf, checkOf}
+use Rattle.audit.specs.CheckLaws.{check-audit, clean-vacant, clean-flag}
 use Rattle.audit.specs.FirstLaws.{first-none, first-all}
 use Rattle.audit.specs.ReadyLaws.{unplaced-vacant, unplaced-marked, unplaced-yes}
 use Rattle.funnel.specs.FreshLaws.{occupied-none}
-use Rattle.demand.specs.Made.{Occupied, members, Made, PartOf}
+use Rattle.demand.specs.Made.{Clean, Occupied, members, Made, PartOf}
 use Rattle.demand.specs.MadeLaws.{getD-zeros, members-part, members-whole}
 use Rattle.demand.specs.WalkLaws.{Below}
-use Rattle.demand.specs.FillLaws.{Clean, Sized, Filled, fills-of, fills-members, fills-clean, inside}
+use Rattle.demand.specs.FillLaws.{Sized, Filled, fills-of, fills-members, fills-clean, inside}
 use Rattle.demand.specs.TakeLaws.{Taking, greedy-taking, greedy-ends}
 
 -- ---- a clean image

@@ -20,7 +20,7 @@ use Rattle.funnel.specs.InsertLaws.{find-count, inserted-facts}
 use Rattle.audit.specs.Greedy.{ready}
 use Rattle.audit.specs.ReadyLaws.{ready-by}
 use Rattle.funnel.specs.FreshLaws.{occupied-set}
-use Rattle.demand.specs.Made.{Occupied, members, Inserts, none, one, PartOf}
+use Rattle.demand.specs.Made.{Occupied, Clean, members, Inserts, none, one, PartOf}
 use Rattle.demand.specs.MadeLaws.{getD-set-cases}
 use Rattle.demand.specs.WalkLaws.{Inside, find-over, find-vacancy, Below, find-below}
 
@@ -52,11 +52,6 @@ fills-of {table} {counts} {t} {t'} {words} {flags} k e (one {table' = u} {words'
     go : {k' : ℕ} {words' flags' : List ℕ} (v g : List ℕ) (s identity : ℕ) → v ≡ set words s identity → g ≡ set flags s 1 → Fills table counts (k + 1) v g k' words' flags'
         → Fills table counts (k + 1) (set words s identity) (set flags s 1) k' words' flags'
     go v g s identity p q r = rw (← p, ← q) r
-
--- flags 0 and 1, and no word where nothing is
-pub record Clean (words flags : List ℕ) : Type 0 where
-  pub bits : (t : ℕ) → getD flags t 0 ≤ 1
-  pub vacant-words : (t : ℕ) → getD flags t 0 ≡ 0 → getD words t 0 ≡ 0
 
 -- what is occupied stays so, with its word
 pub record Kept (words flags words' flags' : List ℕ) (t : ℕ) : Type 0 where

@@ -2,7 +2,7 @@
 use mathlib.Core.List.{List, [], _∷_}
 use mathlib.Core.Logic.{_⊎_}
 use mathlib.Core.Path.{_≡_}
-use Prim.Native.Nat.{ℕ}
+use Prim.Native.Nat.{ℕ, _≤_}
 use lib.ListN.{getD, replicate}
 use lib.Dec.{eqb}
 use Rattle.words.specs.Pick.{pick}
@@ -16,6 +16,11 @@ use Rattle.funnel.specs.Insert.{done, withCount, insertOf}
 -- An image is the words and the flags of a table of n slots. "Flag 0 is vacant, any other occupied".
 abbrev pub Occupied : (flags : List ℕ) → ℕ → Type 0
 Occupied flags slot = getD flags slot 0 ≡ 0 → ⊥
+
+-- no slot is dirty: flags are 0 and 1, and vacant words are 0
+pub record Clean (words flags : List ℕ) : Type 0 where
+  pub bits : (slot : ℕ) → getD flags slot 0 ≤ 1
+  pub vacant-words : (slot : ℕ) → getD flags slot 0 ≡ 0 → getD words slot 0 ≡ 0
 
 -- the number of occupied slots
 abbrev pub members : (flags : List ℕ) → ℕ
