@@ -6,7 +6,7 @@ use Rattle.refusal.specs.declared.Name.the-variants as name
 use Rattle.refusal.specs.Table.{Report, answered, refused}
 use Rattle.words.specs.Log.{ceilLog2}
 use Rattle.words.specs.Quotient.{ceilDiv}
-use Rattle.probe.specs.Pick.{pick}
+use Rattle.words.specs.Pick.{pick}
 use Rattle.probe.specs.declared.budget.Budgeted.{Budgeted}
 use Rattle.probe.specs.declared.budget.Budgeted.the-variants.{Probes, Budget}
 

@@ -4,7 +4,7 @@ use Prim.Native.Nat.{ℕ, _+_, _*_, _^_}
 use lib.Dec.{ltb}
 use Rattle.refusal.specs.declared.Name.the-variants as name
 use Rattle.refusal.specs.Table.{Report, answered, refused}
-use Rattle.probe.specs.Pick.{pick}
+use Rattle.words.specs.Pick.{pick}
 use Rattle.probe.specs.declared.counter.Domain.{Domain}
 use Rattle.probe.specs.declared.counter.Domain.the-variants.{Ordinary, Primary, FallbackA, FallbackB}
 use Rattle.probe.specs.declared.counter.PackedCounter.{PackedCounter}

@@ -6,12 +6,12 @@ use native.Mathlib.Nat.{div-add-mod'}
 use native.Mathlib.Omega.{arith}
 use lib.Dec.{eqb, ltb}
 use borrow.Author.Tests.{eqb-false, ltb-true, lt-ltb, ne-eqb}
-use Rattle.probe.specs.Pick.{pick}
+use Rattle.words.specs.Pick.{pick}
 use Rattle.probe.specs.Phi.{phi, Coords, gap, at, coordsOf}
 use Rattle.probe.specs.PhiLaws.{coords-phi, coords-sound}
 use Rattle.probe.specs.Wide.{wideOf, toWide}
 use Rattle.probe.specs.Position.{positionOf, boundedOf, told, coordinatesOf}
-use Rattle.probe.specs.declared.wide.Wide.{Wide}
+use Rattle.words.specs.declared.product.Wide.{Wide}
 use Rattle.probe.specs.declared.phi.Coordinate.the-variants.{I, J}
 use Rattle.probe.specs.declared.phi.Position.the-variants as position
 use Rattle.probe.specs.declared.phi.Bounded.the-variants as bounded

@@ -1,4 +1,3 @@
-pub mod Pick
 pub mod Mix
 pub mod MixLaws
 pub mod Counter

@@ -1,7 +1,7 @@
 -- phi and its inverse, on numbers. Assumes nothing.
 use Prim.Native.Nat.{ℕ, zero, suc, _+_, _*_, _-_, _/_, _%_, _^_}
 use lib.Dec.{ltb}
-use Rattle.probe.specs.Pick.{pick}
+use Rattle.words.specs.Pick.{pick}
 use Rattle.probe.specs.Length.{bitsOf}
 
 -- "for each bit of j from the top, a 1 then that bit", of the t low bits of j

@@ -4,7 +4,7 @@ use Prim.Native.Nat.{ℕ, _^_}
 use lib.Dec.{eqb, ltb}
 use Rattle.refusal.specs.declared.Name.the-variants as name
 use Rattle.refusal.specs.Table.{Report, answered, refused}
-use Rattle.probe.specs.Pick.{pick}
+use Rattle.words.specs.Pick.{pick}
 use Rattle.probe.specs.Phi.{phi, Coords, gap, at, coordsOf}
 use Rattle.probe.specs.Wide.{toWide}
 use Rattle.probe.specs.declared.phi.Coordinate.{Coordinate}

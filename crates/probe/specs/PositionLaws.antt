@@ -14,7 +14,7 @@ use Rattle.probe.specs.PhiLaws.{pairs-last, parse-low, parse-last, parse
 use Rattle.probe.specs.Wide.{wideOf}
 use Rattle.probe.specs.WideLaws.{wide-is}
 use Rattle.probe.specs.Position.{positionOf, told, coordinatesOf}
-use Rattle.probe.specs.declared.wide.Wide.{Wide}
+use Rattle.words.specs.declared.product.Wide.{Wide}
 use Rattle.probe.specs.declared.phi.Coordinate.the-variants.{I, J}
 use Rattle.probe.specs.declared.phi.Position.the-variants as position
 use Rattle.probe.specs.declared.phi.Coordinates.the-variants as coordinates

@@ -4,7 +4,7 @@ use Prim.Native.Nat.{ℕ, zero, suc, _+_, _*_, _/_, _%_, _^_}
 use lib.Dec.{eqb, ltb, leb}
 use Rattle.refusal.specs.declared.Name.the-variants as name
 use Rattle.refusal.specs.Table.{Report, answered, refused}
-use Rattle.probe.specs.Pick.{pick}
+use Rattle.words.specs.Pick.{pick}
 use Rattle.probe.specs.Counter.{elasticCounterOf, levelOf, funnelCounterOf}
 use Rattle.probe.specs.Word.{elasticKeyOf, funnelInOf, funnelOutOf, wordOf}
 use Rattle.probe.specs.declared.counter.Domain.{Domain}

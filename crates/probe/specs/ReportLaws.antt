@@ -6,7 +6,7 @@ use Prim.Native.Nat.{ℕ, _/_, _%_, _^_}
 use lib.Dec.{eqb, ltb, leb}
 use Rattle.refusal.specs.declared.Name.the-variants as name
 use Rattle.refusal.specs.Table.{Report, answered, refused}
-use Rattle.probe.specs.Pick.{pick}
+use Rattle.words.specs.Pick.{pick}
 use Rattle.probe.specs.Counter.{elasticCounterOf, elasticPackedOf, levelOf, funnelCounterOf, funnelPackedOf, packedReport}
 use Rattle.probe.specs.Word.{elasticKeyOf, funnelInOf, funnelOutOf, elasticWordOf, funnelWordOf, worded, elasticWordedOf, funnelWordedOf, wordReport}
 use Rattle.probe.specs.Range.{elasticDrawOf, funnelDrawOf, reducedOf, elasticReduceOf, funnelReduceOf, reducedReport}

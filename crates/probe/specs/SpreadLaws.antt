@@ -8,7 +8,7 @@ use native.Mathlib.Decide.{ℕ-discrete}
 use lib.Dec.{eqb, ltb}
 use lib.Bits.{bitAnd, bitOr, or-block, and-block, and-mask, or-mod, or-lt, or-zero-l, or-zero-r, block-half, block-odd}
 use borrow.Author.Tests.{eqb-true, ltb-true}
-use Rattle.probe.specs.Pick.{pick}
+use Rattle.words.specs.Pick.{pick}
 use Rattle.probe.specs.Phi.{pairs}
 use Rattle.probe.specs.Spread.{spreadOf}
 

@@ -1,6 +1,6 @@
 -- Numbers of two words. Assumes nothing.
 use Prim.Native.Nat.{ℕ, _+_, _*_, _/_, _%_, _^_}
-use Rattle.probe.specs.declared.wide.Wide.{Wide}
+use Rattle.words.specs.declared.product.Wide.{Wide}
 
 -- the number that two words make
 abbrev pub wideOf : Wide → ℕ

@@ -8,7 +8,7 @@ use lib.Pow.{pow-pos, pow-mono, pow-lt, pow-add, shr-shr, high, low, mod-pow-add
 use Rattle.probe.specs.Length.{bitsOf}
 use Rattle.probe.specs.LengthLaws.{bits-before, bits-below}
 use Rattle.probe.specs.Wide.{wideOf, toWide}
-use Rattle.probe.specs.declared.wide.Wide.{Wide}
+use Rattle.words.specs.declared.product.Wide.{Wide}
 
 -- ---- the words of a number
 

@@ -3,6 +3,7 @@ ghost use mathlib.Core.Path.{_≡_};
 ghost use Prim.Native.Nat.{_+_, _*_, _^_, _<_};
 ghost use lib.Dec.{ltb};
 ghost use Rattle.probe.specs.Counter.{elasticCounterOf, elasticPackedOf, tagOf, levelOf, funnelCounterOf, funnelPackedOf};
+use words::place::LogicalProbe;
 
 // "limits 32, 8192, 8"
 pub const ELASTIC_LEVELS: u64 = 32;
@@ -33,13 +34,13 @@ pub enum PackedCounter {
 }
 
 // "counter = level<<16, probe<<3, retry; limits 32, 8192, 8"
-pub fn elastic_counter(level: u64, probe: u64, retry: u64) -> PackedCounter
-    ensures { λ r. ⌜ r ≡ elasticPackedOf level probe retry ⌝ }
+pub fn elastic_counter(level: u64, probe: LogicalProbe, retry: u64) -> PackedCounter
+    ensures { λ r. ⌜ r ≡ elasticPackedOf level (probe .0) retry ⌝ }
 {
     if ELASTIC_LEVELS <= level {
         return PackedCounter::Counter;
     }
-    if ELASTIC_PROBES <= probe {
+    if ELASTIC_PROBES <= probe.0 {
         return PackedCounter::Counter;
     }
     if ELASTIC_WORDS <= retry {
@@ -49,21 +50,21 @@ pub fn elastic_counter(level: u64, probe: u64, retry: u64) -> PackedCounter
 }
 
 // The counter of the first word of an elastic probe; those of its retries follow it.
-pub fn elastic_base(level: u64, probe: u64) -> u64
-    requires { ⌜ (level < 32) × (probe < 8192) ⌝ }
-    ensures { λ r. ⌜ r ≡ elasticCounterOf level probe 0 ⌝ }
+pub fn elastic_base(level: u64, probe: LogicalProbe) -> u64
+    requires { ⌜ (level < 32) × (probe .0 < 8192) ⌝ }
+    ensures { λ r. ⌜ r ≡ elasticCounterOf level (probe .0) 0 ⌝ }
 {
-    (level << 16) | (probe << 3)
+    (level << 16) | (probe.0 << 3)
 }
 
 // "counter = tag<<62, level<<16, probe<<8, retry; limits 2^46, 256, 256"
-pub fn funnel_counter(domain: Domain, probe: u64, retry: u64) -> PackedCounter
-    ensures { λ r. ⌜ r ≡ funnelPackedOf domain probe retry ⌝ }
+pub fn funnel_counter(domain: Domain, probe: LogicalProbe, retry: u64) -> PackedCounter
+    ensures { λ r. ⌜ r ≡ funnelPackedOf domain (probe .0) retry ⌝ }
 {
     if !domain_fits(domain) {
         return PackedCounter::Counter;
     }
-    if FUNNEL_PROBES <= probe {
+    if FUNNEL_PROBES <= probe.0 {
         return PackedCounter::Counter;
     }
     if FUNNEL_WORDS <= retry {
@@ -73,11 +74,11 @@ pub fn funnel_counter(domain: Domain, probe: u64, retry: u64) -> PackedCounter
 }
 
 // The counter of the first word of a funnel probe; those of its retries follow it.
-pub fn funnel_base(domain: Domain, probe: u64) -> u64
-    requires { ⌜ (levelOf domain < 2 ^ 46) × (probe < 256) ⌝ }
-    ensures { λ r. ⌜ r ≡ funnelCounterOf domain probe 0 ⌝ }
+pub fn funnel_base(domain: Domain, probe: LogicalProbe) -> u64
+    requires { ⌜ (levelOf domain < 2 ^ 46) × (probe .0 < 256) ⌝ }
+    ensures { λ r. ⌜ r ≡ funnelCounterOf domain (probe .0) 0 ⌝ }
 {
-    domain_base(domain) | (probe << 8)
+    domain_base(domain) | (probe.0 << 8)
 }
 
 // Whether the level of a domain is below 2^46.

@@ -6,12 +6,12 @@ ghost use Rattle.probe.specs.Phi.{pairs};
 ghost use Rattle.probe.specs.Position.{positionOf, boundedOf, coordinatesOf};
 ghost use Rattle.probe.specs.Spread.{spreadOf};
 ghost use Rattle.probe.specs.Wide.{wideOf};
-use crate::wide::Wide;
 use crate::wide::bit_at;
 use crate::wide::bits;
 use crate::wide::low_bits;
 use crate::wide::with_bit;
 use words::power::bit_length;
+use words::product::Wide;
 
 // The coordinate that was zero.
 pub enum Coordinate {

@@ -17,6 +17,7 @@ use crate::word::elastic_key;
 use crate::word::funnel_key;
 use crate::word::keyed_word;
 use refusal::RangeRefusal;
+use words::place::LogicalProbe;
 use words::power::two64_mod;
 use words::product::multiply;
 use words::product::multiply_high;
@@ -40,11 +41,11 @@ pub fn elastic_reduce(
     seed: u64,
     identity: u64,
     level: u64,
-    probe: u64,
+    probe: LogicalProbe,
     upper: u64,
     cap: u64,
 ) -> Reduced
-    ensures { λ r. ⌜ r ≡ elasticReduceOf seed identity level probe upper cap ⌝ }
+    ensures { λ r. ⌜ r ≡ elasticReduceOf seed identity level (probe .0) upper cap ⌝ }
 {
     if upper == 0 {
         return Reduced::Upper;
@@ -52,7 +53,7 @@ pub fn elastic_reduce(
     if ELASTIC_LEVELS <= level {
         return Reduced::Counter;
     }
-    if ELASTIC_PROBES <= probe {
+    if ELASTIC_PROBES <= probe.0 {
         return Reduced::Counter;
     }
     if ELASTIC_WORDS < cap {
@@ -71,11 +72,11 @@ pub fn funnel_reduce(
     seed: u64,
     identity: u64,
     domain: Domain,
-    probe: u64,
+    probe: LogicalProbe,
     upper: u64,
     cap: u64,
 ) -> Reduced
-    ensures { λ r. ⌜ r ≡ funnelReduceOf seed identity domain probe upper cap ⌝ }
+    ensures { λ r. ⌜ r ≡ funnelReduceOf seed identity domain (probe .0) upper cap ⌝ }
 {
     if upper == 0 {
         return Reduced::Upper;
@@ -83,7 +84,7 @@ pub fn funnel_reduce(
     if !domain_fits(domain) {
         return Reduced::Counter;
     }
-    if FUNNEL_PROBES <= probe {
+    if FUNNEL_PROBES <= probe.0 {
         return Reduced::Counter;
     }
     if FUNNEL_WORDS < cap {

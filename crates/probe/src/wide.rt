@@ -1,15 +1,10 @@
-// Numbers of two words, for positions and coordinates of up to 128 bits.
+// Bits of numbers of two words, for positions and coordinates of up to 128 bits.
 ghost use mathlib.Core.Path.{_≡_};
 ghost use Prim.Native.Nat.{_+_, _*_, _/_, _%_, _^_, _<_};
 ghost use Rattle.probe.specs.Length.{bitsOf};
 ghost use Rattle.probe.specs.Wide.{wideOf};
 use words::power::bit_length;
-
-// hi * 2^64 + lo.
-pub struct Wide {
-    pub hi: u64,
-    pub lo: u64,
-}
+use words::product::Wide;
 
 // The length in bits.
 pub(crate) fn bits(x: Wide) -> u64

@@ -6,6 +6,7 @@ use crate::counter::PackedCounter;
 use crate::counter::elastic_counter;
 use crate::counter::funnel_counter;
 use crate::mix::mix64;
+use words::place::LogicalProbe;
 
 // The two numbers that key a funnel's words: 01's "in" and "out", the Rust's `key_in` and `key_out`.
 pub struct FunnelKey {
@@ -48,8 +49,8 @@ pub(crate) fn keyed_word(inner: u64, outer: u64, counter: u64) -> u64
 }
 
 // One word of an elastic probe.
-pub fn elastic_word(seed: u64, identity: u64, level: u64, probe: u64, retry: u64) -> ProbeWord
-    ensures { λ r. ⌜ r ≡ elasticWordedOf seed identity level probe retry ⌝ }
+pub fn elastic_word(seed: u64, identity: u64, level: u64, probe: LogicalProbe, retry: u64) -> ProbeWord
+    ensures { λ r. ⌜ r ≡ elasticWordedOf seed identity level (probe .0) retry ⌝ }
 {
     match elastic_counter(level, probe, retry) {
         PackedCounter::Packed(counter) => {
@@ -61,8 +62,8 @@ pub fn elastic_word(seed: u64, identity: u64, level: u64, probe: u64, retry: u64
 }
 
 // One word of a funnel probe.
-pub fn funnel_word(seed: u64, identity: u64, domain: Domain, probe: u64, retry: u64) -> ProbeWord
-    ensures { λ r. ⌜ r ≡ funnelWordedOf seed identity domain probe retry ⌝ }
+pub fn funnel_word(seed: u64, identity: u64, domain: Domain, probe: LogicalProbe, retry: u64) -> ProbeWord
+    ensures { λ r. ⌜ r ≡ funnelWordedOf seed identity domain (probe .0) retry ⌝ }
 {
     match funnel_counter(domain, probe, retry) {
         PackedCounter::Packed(counter) => {

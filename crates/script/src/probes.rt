@@ -17,7 +17,6 @@ use probe::phi::phi_inverse;
 use probe::range::Reduced;
 use probe::range::elastic_reduce;
 use probe::range::funnel_reduce;
-use probe::wide::Wide;
 use probe::word::ProbeWord;
 use probe::word::elastic_word;
 use probe::word::funnel_word;
@@ -34,7 +33,7 @@ use text::out::put;
 use text::out::put_decimal;
 use text::out::put_field;
 use text::out::put_wide;
-use words::product::Halves;
+use words::place::LogicalProbe;
 
 // A domain by its tag and level, of which a special one has none.
 enum Named {
@@ -93,10 +92,10 @@ pub fn position(line: &[u8], args: usize, out: &mut [u8], at: usize) -> usize {
     let OneWord::Value(j) = number(line, from, line.len()) else {
         return print::unknown(out, at);
     };
-    match phi(Wide { hi: i.hi, lo: i.lo }, j) {
+    match phi(i, j) {
         Position::Overflow => print::refused(Name::Overflow, out, at),
         Position::Coord(coordinate) => put_coordinate(coordinate, out, at),
-        Position::At(p) => put_wide(out, at, Halves { hi: p.hi, lo: p.lo }),
+        Position::At(p) => put_wide(out, at, p),
     }
 }
 
@@ -105,10 +104,10 @@ pub fn coordinates(line: &[u8], args: usize, out: &mut [u8], at: usize) -> usize
     let TwoWords::Value(p) = wide_number(line, args, line.len()) else {
         return print::unknown(out, at);
     };
-    match phi_inverse(Wide { hi: p.hi, lo: p.lo }) {
+    match phi_inverse(p) {
         Coordinates::Gap => print::refused(Name::Gap, out, at),
         Coordinates::At { i, j } => {
-            let to = put_wide(out, at, Halves { hi: i.hi, lo: i.lo });
+            let to = put_wide(out, at, i);
             put_field(out, to, j)
         }
     }

@@ -2,7 +2,7 @@
 ghost use mathlib.Core.Path.{_≡_};
 ghost use Prim.Native.Nat.{_+_, _-_, _<_, _≤_, _^_};
 ghost use lib.ListN.{length};
-use words::product::Halves;
+use words::product::Wide;
 use words::product::multiply_wide;
 
 // A number of one word, or none.
@@ -13,7 +13,7 @@ pub enum OneWord {
 
 // A number of two words, or none.
 pub enum TwoWords {
-    Value(Halves),
+    Value(Wide),
     Bad,
 }
 
@@ -69,7 +69,7 @@ fn digit16(b: u8) -> u64 {
 }
 
 // One digit more behind a number of two words, or none where it has no room.
-fn append_digit(x: Halves, base: u64, d: u64) -> TwoWords {
+fn append_digit(x: Wide, base: u64, d: u64) -> TwoWords {
     let low = multiply_wide(x.lo, base);
     let high = multiply_wide(x.hi, base);
     if high.hi != 0 {
@@ -82,7 +82,7 @@ fn append_digit(x: Halves, base: u64, d: u64) -> TwoWords {
     if part < carry || hi < part {
         return TwoWords::Bad;
     }
-    TwoWords::Value(Halves { hi, lo })
+    TwoWords::Value(Wide { hi, lo })
 }
 
 // The number that the digits of a part make, or none where it is empty, has another byte or is too large.
@@ -90,7 +90,7 @@ fn digits(line: &[u8], from: usize, to: usize, base: u64) -> TwoWords {
     if to <= from || line.len() < to {
         return TwoWords::Bad;
     }
-    let mut x = Halves { hi: 0, lo: 0 };
+    let mut x = Wide { hi: 0, lo: 0 };
     let mut i = from;
     while i < to {
         let d = digit(line[i], base);

@@ -2,13 +2,13 @@
 // a full one.
 ghost use Prim.Native.Nat.{_*_, _<_, _≤_, _^_};
 ghost use lib.ListN.{length};
-use words::product::Halves;
+use words::product::Wide;
 
 const P: u64 = 0x1_0000_0000;
 
 // A two-word number without its last decimal digit, and that digit.
 struct Tenth {
-    rest: Halves,
+    rest: Wide,
     digit: u64,
 }
 
@@ -106,13 +106,13 @@ fn shift_in(rest: u64, half: u64) -> u64
     rest % 10 * P + half % P
 }
 
-fn take_digit(x: Halves) -> Tenth {
+fn take_digit(x: Wide) -> Tenth {
     let d = shift_in(0, x.hi / P);
     let c = shift_in(d, x.hi);
     let b = shift_in(c, x.lo / P);
     let a = shift_in(b, x.lo);
     Tenth {
-        rest: Halves {
+        rest: Wide {
             hi: d / 10 * P + c / 10,
             lo: b / 10 * P + a / 10,
         },
@@ -121,7 +121,7 @@ fn take_digit(x: Halves) -> Tenth {
 }
 
 // Puts the decimal digits of a number at the end of a part, as many as go in, and answers where they start.
-fn spell_wide(n: Halves, text: &mut [u8]) -> usize
+fn spell_wide(n: Wide, text: &mut [u8]) -> usize
     ensures { λ r. ⌜ r ≤ length (now (text .exit)) ⌝ }
 {
     let mut rest = n;
@@ -141,7 +141,7 @@ fn spell_wide(n: Halves, text: &mut [u8]) -> usize
 }
 
 // A number of two words in plain decimal digits, of which it has at most 39.
-pub fn put_wide(out: &mut [u8], at: usize, n: Halves) -> usize {
+pub fn put_wide(out: &mut [u8], at: usize, n: Wide) -> usize {
     let mut text = [0u8; 39];
     let from = spell_wide(n, &mut text);
     put(out, at, &text[from..])

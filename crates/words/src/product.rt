@@ -4,8 +4,8 @@ ghost use Prim.Native.Nat.{_+_, _*_, _%_, _/_, _^_};
 
 const P: u64 = 0x1_0000_0000;
 
-// The two halves of a product.
-pub struct Halves {
+// A number of two words, hi * 2^64 + lo: a product, a position or a coordinate of up to 128 bits.
+pub struct Wide {
     pub hi: u64,
     pub lo: u64,
 }
@@ -37,10 +37,10 @@ pub fn multiply_high(a: u64, b: u64) -> u64
 }
 
 // Both halves of a * b.
-pub fn multiply_wide(a: u64, b: u64) -> Halves
+pub fn multiply_wide(a: u64, b: u64) -> Wide
     ensures { λ r. ⌜ (r .hi ≡ a * b / 2 ^ 64) × (r .lo ≡ a * b % 2 ^ 64) ⌝ }
 {
-    Halves {
+    Wide {
         hi: multiply_high(a, b),
         lo: multiply(a, b),
     }

@@ -8,7 +8,7 @@ domain-base-requires : tie.Need-domain-base-requires
 domain-base-requires c κs = search needs
 
 returns : tie.Need-returns
-returns c = funnel-shifts (c .before .args .domain) _ _ (c .domain-base .ensures) (c .before .pre .1)
+returns c = funnel-shifts (c .before .before .args .domain) _ _ (c .before .domain-base .ensures) (c .before .before .pre .1)
 
 pub funnel-base-spec : {M : Type 1} → statement M
 funnel-base-spec = tie.close (tie.spec domain-base-requires returns)

@@ -14,17 +14,17 @@ returns : tie.Need-returns
 returns c = funnel-packed-level _ _ _ (domain-beyond (c .before .before .args .domain) _ (c .before .domain-fits .ensures) (c .if1 .taken))
 
 returns-2 : tie.Need-returns-2
-returns-2 c = funnel-packed-probe _ _ _ (domain-below (c .before .before .before .args .domain) _ (c .before .before .domain-fits .ensures) (c .before .if1 .left)) (c .if2 .taken)
+returns-2 c = funnel-packed-probe _ _ _ (domain-below (c .before .before .before .before .args .domain) _ (c .before .before .before .domain-fits .ensures) (c .before .before .if1 .left)) (c .if2 .taken)
 
 returns-3 : tie.Need-returns-3
-returns-3 c = funnel-packed-retry _ _ _ (domain-below (c .before .before .before .before .args .domain) _ (c .before .before .before .domain-fits .ensures) (c .before .before .if1 .left)) (omega arith) (c .if3 .taken)
+returns-3 c = funnel-packed-retry _ _ _ (domain-below (c .before .before .before .before .before .args .domain) _ (c .before .before .before .before .domain-fits .ensures) (c .before .before .before .if1 .left)) (omega arith) (c .if3 .taken)
 
 funnel-base-requires : tie.Need-funnel-base-requires
-funnel-base-requires c κs = (domain-below (c .before .before .before .before .args .domain) _ (c .before .before .before .domain-fits .ensures) (c .before .before .if1 .left), omega arith)
+funnel-base-requires c κs = (domain-below (c .before .before .before .before .before .args .domain) _ (c .before .before .before .before .domain-fits .ensures) (c .before .before .before .if1 .left), omega arith)
 
 returns-4 : tie.Need-returns-4
-returns-4 c = ap Packed (funnel-or (c .before .before .before .before .before .args .domain) (c .before .before .before .before .before .args .probe) _ _ (c .funnel-base .ensures) (omega arith))
-    ∙ funnel-packed _ _ _ (domain-below (c .before .before .before .before .before .args .domain) _ (c .before .before .before .before .domain-fits .ensures) (c .before .before .before .if1 .left)) (omega arith) (omega arith)
+returns-4 c = ap Packed (funnel-or (c .before .before .before .before .before .before .args .domain) (c .before .before .before .before .before .before .args .probe .0) _ _ (c .funnel-base .ensures) (omega arith))
+    ∙ funnel-packed _ _ _ (domain-below (c .before .before .before .before .before .before .args .domain) _ (c .before .before .before .before .before .domain-fits .ensures) (c .before .before .before .before .if1 .left)) (omega arith) (omega arith)
 
 pub funnel-counter-spec : {M : Type 1} → statement M
 funnel-counter-spec =

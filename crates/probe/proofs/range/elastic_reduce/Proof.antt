@@ -12,10 +12,10 @@ returns-2 : tie.Need-returns-2
 returns-2 c = elastic-level _ _ _ _ _ _ (c .before .if1 .left) (c .if2 .taken)
 
 returns-3 : tie.Need-returns-3
-returns-3 c = elastic-probe _ _ _ _ _ _ (c .before .before .if1 .left) (omega arith) (c .if3 .taken)
+returns-3 c = elastic-probe _ _ _ _ _ _ (c .before .before .before .if1 .left) (omega arith) (c .if3 .taken)
 
 returns-4 : tie.Need-returns-4
-returns-4 c = elastic-cap _ _ _ _ _ _ (c .before .before .before .if1 .left) (omega arith) (omega arith) (c .if4 .taken)
+returns-4 c = elastic-cap _ _ _ _ _ _ (c .before .before .before .before .if1 .left) (omega arith) (omega arith) (c .if4 .taken)
 
 elastic-key-requires : tie.Need-elastic-key-requires
 elastic-key-requires c κs = search needs
@@ -30,7 +30,7 @@ answer-requires : tie.Need-answer-requires
 answer-requires c κs = search needs
 
 returns-5 : tie.Need-returns-5
-returns-5 c = elastic-answer _ _ _ _ _ _ (c .before .before .before .before .before .before .before .if1 .left) (omega arith) (omega arith) (omega arith) _ _ _ _ (c .before .before .before .elastic-key .ensures) (c .before .before .elastic-base .ensures) (c .before .elastic-draw .ensures) (c .answer .ensures)
+returns-5 c = elastic-answer _ _ _ _ _ _ (c .before .before .before .before .before .before .before .before .if1 .left) (omega arith) (omega arith) (omega arith) _ _ _ _ (c .before .before .before .elastic-key .ensures) (c .before .before .elastic-base .ensures) (c .before .elastic-draw .ensures) (c .answer .ensures)
 
 pub elastic-reduce-spec : {M : Type 1} → statement M
 elastic-reduce-spec =
