@@ -10,6 +10,7 @@ use lib.ListN.{length, getD, set, replicate, length-set}
 use lib.Pow.{pow-mono}
 use lib.Seq.{getD-set-same}
 use borrow.Author.Tests.{eq-eqb, ne-eqb, lt-ltb, le-ltb, le-leb, lt-leb}
+use Rattle.words.specs.declared.place.LogicalProbe.{LogicalProbe}
 use Rattle.words.specs.Log.{ceilLog2, firstFrom}
 use Rattle.words.specs.Pick.{pick}
 use Rattle.geometry.specs.declared.config.Gated.the-variants as gated
@@ -81,21 +82,21 @@ module _ (e seed : ℕ) (limits : Limits) (some : 0 < e) (fit : limitsFit e limi
   unfolding batchOf quotasOf lengthsOf split levelLength ceilLog2 firstFrom uncutQuotas laterQuotas cut batchFrom
   first-batch = let r = room in rw (lt-ltb 0 (min 2 (maximum 2 e)) (omega arith))
 
-  first-sought : seekOf 2 key (limits .«range_word_cap») two-zeros 0 (limits .«uniform_search_probe_cap») ≡ sought.Vacant (slotOfTwo key) 0
+  first-sought : seekOf 2 key (limits .«range_word_cap») two-zeros 0 (limits .«uniform_search_probe_cap») ≡ sought.Vacant (slotOfTwo key) (record { 0 = 0 })
   unfolding seekFrom
   first-sought =
       let f = limits-facts e limits fit in
       let t : limits .«uniform_search_probe_cap» ≡ suc (limits .«uniform_search_probe_cap» - 1) = omega (arith, f .search-some) in
       rw (t, two-reading key (limits .«range_word_cap») (f .words-some), two-vacant (slotOfTwo key) (two-below key))
 
-  first-chosen : chooseOf (freshOf 2 e seed limits) (replicate 32 0) two-zeros two-zeros id ≡ chosen.Slot (Batch0 0) 0 (slotOfTwo key) 0
+  first-chosen : chooseOf (freshOf 2 e seed limits) (replicate 32 0) two-zeros two-zeros id ≡ chosen.Slot (Batch0 0) 0 (slotOfTwo key) (record { 0 = 0 })
   unfolding chooseOf firstOf firstSlot holdsAt stepsOf uniformOf
   first-chosen = let r = room in rw (lt-leb (maximum 2 e) 0 r, first-batch, first-sought)
 
   -- "Elastic first insert in n=2, position cap at least 13: phi 13"
   module _ (far : 13 ≤ limits .«hit_query_position_cap») where
     pub first-insert : insertOf (freshOf 2 e seed limits) (replicate 32 0) two-zeros two-zeros id
-        ≡ done (inserted.Inserted (insertionOf 2 (Batch0 0) 0 (slotOfTwo key) 0)) (counted (freshOf 2 e seed limits)) (set (replicate 32 0) 0 1) (set two-zeros (slotOfTwo key) id) (set two-zeros (slotOfTwo key) 1)
+        ≡ done (inserted.Inserted (insertionOf 2 (Batch0 0) 0 (slotOfTwo key) (record { 0 = 0 }))) (counted (freshOf 2 e seed limits)) (set (replicate 32 0) 0 1) (set two-zeros (slotOfTwo key) id) (set two-zeros (slotOfTwo key) 1)
     unfolding insertOf placeBy
     first-insert = rw (fresh-gate, first-chosen, first-position, le-ltb (limits .«hit_query_position_cap») 13 far)
 

@@ -9,6 +9,7 @@ use Rattle.refusal.specs.declared.Name.the-variants as name
 use Rattle.words.specs.Pick.{pick}
 use Rattle.words.specs.declared.place.GlobalSlot.{GlobalSlot}
 use Rattle.words.specs.declared.place.LevelSlot.{LevelSlot}
+use Rattle.words.specs.declared.place.LogicalProbe.{LogicalProbe}
 use Rattle.words.specs.declared.place.PaperProbe.{PaperProbe}
 use Rattle.geometry.specs.declared.config.Gated.{Gated}
 use Rattle.geometry.specs.declared.config.Gated.the-variants as gated
@@ -121,20 +122,20 @@ abbrev pub counted : State → State
 counted st = record { n = st .n; e = st .e; seed = st .seed; limits = st .limits; plan = st .plan; count = st .count + 1 }
 
 -- paper probes and levels count from 1
-abbrev pub insertionOf : (n : ℕ) → Case → (level slot probe : ℕ) → Insertion
+abbrev pub insertionOf : (n : ℕ) → Case → (level slot : ℕ) → LogicalProbe → Insertion
 insertionOf n case level slot probe =
     record {
       case = case;
       location = record { level = level; «slot_in_level» = record { 0 = slot - offsetAt n level }; «global_slot» = record { 0 = slot } };
-      «paper_probe» = record { 0 = probe + 1 };
-      phi = phi (level + 1) (probe + 1);
+      «paper_probe» = record { 0 = probe .0 + 1 };
+      phi = phi (level + 1) (probe .0 + 1);
     }
 
 -- "then 19. POSITION: chosen phi above the position cap"; "an insertion writes 1"
 unfoldable pub placeBy : State → List ℕ → List ℕ → List ℕ → (id : ℕ) → Chosen → Done
 placeBy st cs ws fs id (chosen.Refused r) = done (answer.Refused r) st cs ws fs
 placeBy st cs ws fs id (chosen.Slot case level slot probe) =
-    pick (ltb (st .limits .«hit_query_position_cap») (phi (level + 1) (probe + 1)))
+    pick (ltb (st .limits .«hit_query_position_cap») (phi (level + 1) (probe .0 + 1)))
     (done (answer.Refused refusal.Position) st cs ws fs)
     (done (answer.Inserted (insertionOf (st .n) case level slot probe)) (counted st) (set cs level (getD cs level 0 + 1)) (set ws slot id) (set fs slot 1))
 

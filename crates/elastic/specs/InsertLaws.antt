@@ -10,6 +10,7 @@ use lib.ListN.{length, getD, set}
 use borrow.Author.Tests.{eq-eqb, ne-eqb, lt-ltb, le-ltb, le-leb, lt-leb, eqb-true, eqb-false, leb-true, leb-false}
 use Rattle.refusal.specs.declared.RangeRefusal.{RangeRefusal}
 use Rattle.refusal.specs.declared.Gate.{Gate}
+use Rattle.words.specs.declared.place.LogicalProbe.{LogicalProbe}
 use Rattle.words.specs.Pick.{pick}
 use Rattle.geometry.specs.declared.config.Gated.{Gated}
 use Rattle.geometry.specs.declared.config.Gated.the-variants as gated
@@ -136,7 +137,7 @@ module _ (level probe : ℕ) (h : level < 32) (k : probe < 8192) (b : Bounded) (
 -- ---- the uniform search
 
 module _ (n key cap : ℕ) (fs : List ℕ) (tries : ℕ) (case : Case) (level : ℕ) (r : Sought) (e : r ≡ seekOf n key cap fs level tries) where
-  pub uniform-vacant : (slot probe : ℕ) → r ≡ sought.Vacant slot probe → chosen.Slot case level slot probe ≡ uniformOf n key cap fs tries case level
+  pub uniform-vacant : (slot : ℕ) (probe : LogicalProbe) → r ≡ sought.Vacant slot probe → chosen.Slot case level slot probe ≡ uniformOf n key cap fs tries case level
   unfolding uniformOf
   uniform-vacant slot probe h = sym (rw (← e, h))
 
@@ -151,7 +152,7 @@ module _ (n key cap : ℕ) (fs : List ℕ) (tries : ℕ) (case : Case) (level : 
 -- ---- the budgeted search
 
 module _ (n key cap : ℕ) (fs : List ℕ) (tries budget : ℕ) (case : Case) (current next : ℕ) (r : Sought) (e : r ≡ seekOf n key cap fs current budget) where
-  pub budgeted-vacant : (slot probe : ℕ) → r ≡ sought.Vacant slot probe → chosen.Slot case current slot probe ≡ budgetedOf n key cap fs tries budget case current next
+  pub budgeted-vacant : (slot : ℕ) (probe : LogicalProbe) → r ≡ sought.Vacant slot probe → chosen.Slot case current slot probe ≡ budgetedOf n key cap fs tries budget case current next
   unfolding budgetedOf
   budgeted-vacant slot probe h = sym (rw (← e, h))
 
@@ -229,14 +230,14 @@ module _ (st : State) (cs ws fs : List ℕ) (id : ℕ) (r : Located) (e : r ≡ 
 -- ---- the slot that is chosen
 
 -- a vacant slot of its level, at a probe within the packing
-pub record Taken (st : State) (fs : List ℕ) (level slot probe : ℕ) : Type 0 where
+pub record Taken (st : State) (fs : List ℕ) (level slot : ℕ) (probe : LogicalProbe) : Type 0 where
   pub has : level < levelsOf (st .n)
   pub few : level < 32
   pub from : offsetAt (st .n) level ≤ slot
   pub to : slot < offsetAt (st .n) level + lengthAt (st .n) level
   pub below : slot < st .n
   pub vacant : getD fs slot 0 ≡ 0
-  pub in-time : probe < 8192
+  pub in-time : probe .0 < 8192
 
 -- a pair of levels, by the one that is searched
 pair-cases : {A : Type 0} (x y : Bool) (both here there neither r : Chosen) → pairBy x y both here there neither ≡ r
@@ -248,7 +249,7 @@ pair-cases false true both here there neither r h a b c d = c h
 pair-cases false false both here there neither r h a b c d = d refl h
 
 module _ {st : State} {fs : List ℕ} (key : ℕ) where
-  taken-seek : {level : ℕ} → Searching st level (length fs) → (tries slot probe : ℕ) → tries ≤ 8192 → seekOf (st .n) key (st .limits .«range_word_cap») fs level tries ≡ sought.Vacant slot probe
+  taken-seek : {level : ℕ} → Searching st level (length fs) → (tries slot : ℕ) (probe : LogicalProbe) → tries ≤ 8192 → seekOf (st .n) key (st .limits .«range_word_cap») fs level tries ≡ sought.Vacant slot probe
       → Taken st fs level slot probe
   taken-seek s tries slot probe h e =
       let q = searching-probed s (st .plan .levels - 1) refl in
@@ -256,7 +257,7 @@ module _ {st : State} {fs : List ℕ} (key : ℕ) where
       record { has = s .has; few = probed-few q; from = v .from; to = v .to; below = v .below; vacant = v .vacant; in-time = omega (arith, v .in-time) }
 
   -- by what a search answers
-  pub uniform-taken : {level : ℕ} → Searching st level (length fs) → (case case' : Case) (level' slot probe : ℕ)
+  pub uniform-taken : {level : ℕ} → Searching st level (length fs) → (case case' : Case) (level' slot : ℕ) (probe : LogicalProbe)
       → uniformOf (st .n) key (st .limits .«range_word_cap») fs (st .limits .«uniform_search_probe_cap») case level ≡ chosen.Slot case' level' slot probe → Taken st fs level' slot probe
   unfolding uniformOf
   uniform-taken {level} s case case' level' slot probe h =
@@ -266,12 +267,12 @@ module _ {st : State} {fs : List ℕ} (key : ℕ) where
       go (sought.Vacant u q) e g =
           let a : level ≡ level' = cc in
           let b : u ≡ slot = cc in
-          let d : q ≡ probe = cc in
+          let d : _≡_ {A = LogicalProbe} q probe = cc in
           rw (← a, ← b, ← d) (taken-seek s _ u q (s .limits .search-most) e)
       go sought.Passed e g = let z : _≡_ {A = ℕ} 0 1 = cc in absurd (omega arith)
       go (sought.Refused r) e g = let z : _≡_ {A = ℕ} 0 1 = cc in absurd (omega arith)
 
-  budgeted-taken : {current next : ℕ} → Searching st current (length fs) → Searching st next (length fs) → (budget : ℕ) → budget ≤ 8192 → (case case' : Case) (level' slot probe : ℕ)
+  budgeted-taken : {current next : ℕ} → Searching st current (length fs) → Searching st next (length fs) → (budget : ℕ) → budget ≤ 8192 → (case case' : Case) (level' slot : ℕ) (probe : LogicalProbe)
       → budgetedOf (st .n) key (st .limits .«range_word_cap») fs (st .limits .«uniform_search_probe_cap») budget case current next ≡ chosen.Slot case' level' slot probe → Taken st fs level' slot probe
   unfolding budgetedOf
   budgeted-taken {current} {next} s t budget few case case' level' slot probe h =
@@ -282,12 +283,12 @@ module _ {st : State} {fs : List ℕ} (key : ℕ) where
       go (sought.Vacant u q) e g =
           let a : current ≡ level' = cc in
           let b : u ≡ slot = cc in
-          let d : q ≡ probe = cc in
+          let d : _≡_ {A = LogicalProbe} q probe = cc in
           rw (← a, ← b, ← d) (taken-seek s budget u q few e)
       go sought.Passed e g = uniform-taken t case case' level' slot probe g
       go (sought.Refused r) e g = let z : _≡_ {A = ℕ} 0 1 = cc in absurd (omega arith)
 
-  pair-taken : {cs : List ℕ} {current : ℕ} → Pairing st cs current (length fs) → (case' : Case) (level' slot probe : ℕ)
+  pair-taken : {cs : List ℕ} {current : ℕ} → Pairing st cs current (length fs) → (case' : Case) (level' slot : ℕ) (probe : LogicalProbe)
       → pairOf st key cs fs current ≡ chosen.Slot case' level' slot probe → Taken st fs level' slot probe
   unfolding pairOf
   pair-taken {cs} {current} p case' level' slot probe h =
@@ -312,7 +313,7 @@ module _ {st : State} {fs : List ℕ} (key : ℕ) where
 pub valid-pairing : {st : State} {cs : List ℕ} {words flags : ℕ} → Valid st cs words flags → (current : ℕ) → current + 1 < levelsOf (st .n) → Pairing st cs current flags
 valid-pairing v current h = record { search = valid-searching v (current + 1) h; within = v .within }
 
-steps-taken : {st : State} {cs fs : List ℕ} {words : ℕ} → Valid st cs words (length fs) → (key batch : ℕ) → batch < levelsOf (st .n) → (case' : Case) (level' slot probe : ℕ)
+steps-taken : {st : State} {cs fs : List ℕ} {words : ℕ} → Valid st cs words (length fs) → (key batch : ℕ) → batch < levelsOf (st .n) → (case' : Case) (level' slot : ℕ) (probe : LogicalProbe)
     → stepsOf st key cs fs batch ≡ chosen.Slot case' level' slot probe → Taken st fs level' slot probe
 unfolding stepsOf
 steps-taken v key zero l case' level' slot probe h = uniform-taken key (valid-searching v 0 l) _ case' level' slot probe h
@@ -322,7 +323,7 @@ steps-taken v key (suc b) l case' level' slot probe h = pair-taken key (valid-pa
 pub valid-batch : {st : State} {cs : List ℕ} {words flags : ℕ} → Valid st cs words flags → st .count < st .plan .maximum → batchOf (st .n) (st .e) (st .count) < levelsOf (st .n)
 valid-batch {st} v h = batch-is (st .n) (st .e) (v .config) (st .count) (omega (arith, v .maximum-is)) .1
 
-pub choose-taken : (st : State) (cs ws fs : List ℕ) → Valid st cs (length ws) (length fs) → (id : ℕ) (case' : Case) (level' slot probe : ℕ)
+pub choose-taken : (st : State) (cs ws fs : List ℕ) → Valid st cs (length ws) (length fs) → (id : ℕ) (case' : Case) (level' slot : ℕ) (probe : LogicalProbe)
     → chooseOf st cs ws fs id ≡ chosen.Slot case' level' slot probe → Taken st fs level' slot probe
 unfolding chooseOf
 choose-taken st cs ws fs v id case' level' slot probe h = go (firstOf ws fs id) h
@@ -343,7 +344,7 @@ module _ (st : State) (cs ws fs : List ℕ) (id : ℕ) (x : Chosen) (e : x ≡ c
   unfolding placeBy
   place-refused r h = sym (rw (← e, h))
 
-  module _ (case : Case) (level slot probe p : ℕ) (h : x ≡ chosen.Slot case level slot probe) (is : p ≡ phi (level + 1) (probe + 1)) where
+  module _ (case : Case) (level slot : ℕ) (probe : LogicalProbe) (p : ℕ) (h : x ≡ chosen.Slot case level slot probe) (is : p ≡ phi (level + 1) (probe .0 + 1)) where
     pub place-position : st .limits .«hit_query_position_cap» < p → done (answer.Refused refusal.Position) st cs ws fs ≡ placeBy st cs ws fs id (chooseOf st cs ws fs id)
     unfolding placeBy
     place-position l = sym (rw (← e, h, ← is, lt-ltb (st .limits .«hit_query_position_cap») p l))
@@ -352,7 +353,7 @@ module _ (st : State) (cs ws fs : List ℕ) (id : ℕ) (x : Chosen) (e : x ≡ c
         → done (answer.Inserted (record {
           case = case;
           location = record { level = level; «slot_in_level» = record { 0 = slot - o }; «global_slot» = record { 0 = slot } };
-          «paper_probe» = record { 0 = probe + 1 };
+          «paper_probe» = record { 0 = probe .0 + 1 };
           phi = p;
         })) (counted st) (set cs level (getD cs level 0 + 1)) (set ws slot id) (set fs slot 1)
         ≡ placeBy st cs ws fs id (chooseOf st cs ws fs id)

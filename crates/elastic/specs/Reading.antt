@@ -39,7 +39,7 @@ holdsAt ws fs id slot = pick (vacantAt fs slot) false (eqb (getD ws slot 0) id)
 -- one probe of a search: refused, at a vacancy, or on to the later ones
 abbrev pub seekBy : List ℕ → ℕ → Reading → Sought → Sought
 seekBy fs probe (reading.Refused refusal) later = sought.Refused refusal
-seekBy fs probe (reading.Slot slot words) later = pick (vacantAt fs slot) (sought.Vacant slot probe) later
+seekBy fs probe (reading.Slot slot words) later = pick (vacantAt fs slot) (sought.Vacant slot (record { 0 = probe })) later
 
 -- so many probes of a level from one on, up to the first vacancy
 unfoldable pub seekFrom : (n key cap : ℕ) → List ℕ → (level tries probe : ℕ) → Sought

@@ -8,6 +8,7 @@ use lib.Dec.{eqb}
 use lib.ListN.{length, getD}
 use borrow.Author.Tests.{eq-eqb, ne-eqb, eqb-true, eqb-false}
 use Rattle.refusal.specs.declared.RangeRefusal.{RangeRefusal}
+use Rattle.words.specs.declared.place.LogicalProbe.{LogicalProbe}
 use Rattle.words.specs.Pick.{pick}
 use Rattle.geometry.specs.Config.{Configured}
 use Rattle.geometry.specs.Elastic.{levelsOf, lengthAt, offsetAt, levelLength}
@@ -99,7 +100,7 @@ module _ (n key cap : ℕ) (fs : List ℕ) (level : ℕ) where
     sought-refused r e = sym (k .rest ∙ rw (one, e))
 
     module _ (s w : ℕ) (e : readingOf n key cap level probe ≡ reading.Slot s w) where
-      pub sought-vacant : getD fs s 0 ≡ 0 → sought.Vacant s probe ≡ seekOf n key cap fs level tries
+      pub sought-vacant : getD fs s 0 ≡ 0 → sought.Vacant s (record { 0 = probe }) ≡ seekOf n key cap fs level tries
       unfolding seekFrom
       sought-vacant v = sym (k .rest ∙ rw (one, e, eq-eqb (getD fs s 0) 0 v))
 
@@ -119,25 +120,26 @@ pub record Vacancy (n cap level : ℕ) (fs : List ℕ) (tries s probe : ℕ) : T
   pub vacant : getD fs s 0 ≡ 0
   pub in-time : probe < tries
 
-pub seek-vacant : {n last cap level : ℕ} → Probed n last cap level → (key : ℕ) (fs : List ℕ) (tries s probe : ℕ)
-    → seekOf n key cap fs level tries ≡ sought.Vacant s probe → Vacancy n cap level fs tries s probe
+pub seek-vacant : {n last cap level : ℕ} → Probed n last cap level → (key : ℕ) (fs : List ℕ) (tries s : ℕ) (probe : LogicalProbe)
+    → seekOf n key cap fs level tries ≡ sought.Vacant s probe → Vacancy n cap level fs tries s (probe .0)
 unfolding seekFrom
-seek-vacant {n} {last} {cap} {level} p key fs tries s probe h = go tries 0 (omega arith) h
+seek-vacant {n} {last} {cap} {level} reached key fs tries s probe h = go tries 0 (omega arith) h
   where
     step : (t q : ℕ) → q + suc t ≤ tries → (r : Reading) → readingOf n key cap level q ≡ r → seekBy fs q r (seekFrom n key cap fs level t (q + 1)) ≡ sought.Vacant s probe
-        → (seekFrom n key cap fs level t (q + 1) ≡ sought.Vacant s probe → Vacancy n cap level fs tries s probe) → Vacancy n cap level fs tries s probe
+        → (seekFrom n key cap fs level t (q + 1) ≡ sought.Vacant s probe → Vacancy n cap level fs tries s (probe .0)) → Vacancy n cap level fs tries s (probe .0)
     step t q l (reading.Refused r) e g later = let z : _≡_ {A = ℕ} 0 1 = cc in absurd (omega arith)
     step t q l (reading.Slot u w) e g later = by (vacantAt fs u) refl g
       where
-        by : (x : Bool) → vacantAt fs u ≡ x → pick x (sought.Vacant u q) (seekFrom n key cap fs level t (q + 1)) ≡ sought.Vacant s probe → Vacancy n cap level fs tries s probe
+        by : (x : Bool) → vacantAt fs u ≡ x → pick x (sought.Vacant u (record { 0 = q })) (seekFrom n key cap fs level t (q + 1)) ≡ sought.Vacant s probe → Vacancy n cap level fs tries s (probe .0)
         by false d g = later g
         by true d g =
             let a : u ≡ s = cc in
-            let b : q ≡ probe = cc in
-            let f = reading-read p key q u w e in
+            let p : _≡_ {A = LogicalProbe} (record { 0 = q }) probe = cc in
+            let b : q ≡ probe .0 = ap (λ (x : LogicalProbe). x .0) p in
+            let f = reading-read reached key q u w e in
             record { from = omega (arith, f .from); to = omega (arith, f .to); below = omega (arith, f .below); vacant = ap (λ (x : ℕ). getD fs x 0) (sym a) ∙ eqb-true _ _ d; in-time = omega arith }
 
-    go : (t q : ℕ) → q + t ≤ tries → seekFrom n key cap fs level t q ≡ sought.Vacant s probe → Vacancy n cap level fs tries s probe
+    go : (t q : ℕ) → q + t ≤ tries → seekFrom n key cap fs level t q ≡ sought.Vacant s probe → Vacancy n cap level fs tries s (probe .0)
     go zero q l g = let z : _≡_ {A = ℕ} 0 1 = cc in absurd (omega arith)
     go (suc t) q l g = step t q l (readingOf n key cap level q) refl g (λ d. go t (q + 1) (omega arith) d)
 

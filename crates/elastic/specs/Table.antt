@@ -4,6 +4,7 @@ use mathlib.Core.Path.{_≡_}
 use Prim.Native.Nat.{ℕ, zero, suc, _+_, _≤_, _<_}
 use lib.Dec.{eqb}
 use lib.ListN.{length, getD, set}
+use Rattle.words.specs.declared.place.LogicalProbe.{LogicalProbe}
 use Rattle.words.specs.Pick.{pick}
 use Rattle.geometry.specs.Elastic.{total, levelsOf, lengthAt, offsetAt}
 use Rattle.probe.specs.Phi.{phi}
@@ -21,8 +22,8 @@ use Rattle.elastic.specs.Insert.{Done, done, counted, insertionOf, inser
 -- nothing, or one slot, one level count and the count
 pub data Changes (st : State) (cs ws fs : List ℕ) (id : ℕ) : Done → Type 0 where
   none : (r : InsertRefusal) → Changes st cs ws fs id (done (answer.Refused r) st cs ws fs)
-  one : (case : Case) (level slot probe : ℕ) → level < levelsOf (st .n) → offsetAt (st .n) level ≤ slot → slot < offsetAt (st .n) level + lengthAt (st .n) level → getD fs slot 0 ≡ 0
-      → phi (level + 1) (probe + 1) ≤ st .limits .«hit_query_position_cap»
+  one : (case : Case) (level slot : ℕ) (probe : LogicalProbe) → level < levelsOf (st .n) → offsetAt (st .n) level ≤ slot → slot < offsetAt (st .n) level + lengthAt (st .n) level → getD fs slot 0 ≡ 0
+      → phi (level + 1) (probe .0 + 1) ≤ st .limits .«hit_query_position_cap»
       → Changes st cs ws fs id (done (answer.Inserted (insertionOf (st .n) case level slot probe)) (counted st) (set cs level (getD cs level 0 + 1)) (set ws slot id) (set fs slot 1))
 
 -- the occupied ones of so many flags from one on

@@ -10,6 +10,7 @@ use lib.Dec.{eqb, ltb}
 use lib.ListN.{length, getD, set, replicate, length-set, length-replicate, getD-replicate}
 use lib.Seq.{getD-set-same, getD-set-other}
 use borrow.Author.Tests.{eq-eqb, ne-eqb, eqb-true, eqb-false, ltb-false}
+use Rattle.words.specs.declared.place.LogicalProbe.{LogicalProbe}
 use Rattle.words.specs.Pick.{pick}
 use Rattle.geometry.specs.declared.config.Gated.{Gated}
 use Rattle.geometry.specs.declared.config.Gated.the-variants as gated
@@ -41,7 +42,7 @@ pub insert-changes : (st : State) (cs ws fs : List ℕ) (id : ℕ) → Changes s
 unfolding insertOf placeBy
 insert-changes st cs ws fs id = go (gateOf st cs (length ws) (length fs)) refl
   where
-    by : (case : Case) (level slot probe : ℕ) → Taken st fs level slot probe → (x : Bool) → ltb (st .limits .«hit_query_position_cap») (phi (level + 1) (probe + 1)) ≡ x
+    by : (case : Case) (level slot : ℕ) (probe : LogicalProbe) → Taken st fs level slot probe → (x : Bool) → ltb (st .limits .«hit_query_position_cap») (phi (level + 1) (probe .0 + 1)) ≡ x
         → Changes st cs ws fs id (pick x (done (answer.Refused refusal.Position) st cs ws fs)
         (done (answer.Inserted (insertionOf (st .n) case level slot probe)) (counted st) (set cs level (getD cs level 0 + 1)) (set ws slot id) (set fs slot 1)))
     by case level slot probe t true e = none refusal.Position

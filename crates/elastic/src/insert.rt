@@ -28,6 +28,7 @@ use refusal::Gate;
 use refusal::RangeRefusal;
 use words::place::GlobalSlot;
 use words::place::LevelSlot;
+use words::place::LogicalProbe;
 use words::place::PaperProbe;
 use words::power::floor_div_pow2;
 
@@ -103,7 +104,7 @@ pub enum Chosen {
         case: Case,
         level: u64,
         slot: u64,
-        probe: u64,
+        probe: LogicalProbe,
     },
     Refused(InsertRefusal),
 }
@@ -178,7 +179,7 @@ pub fn place(
             let insertion = Insertion {
                 case,
                 location,
-                paper_probe: PaperProbe(probe + 1),
+                paper_probe: PaperProbe(probe.0 + 1),
                 phi: position,
             };
             return Inserted {
@@ -190,11 +191,11 @@ pub fn place(
 }
 
 // The position of a probe of a level, which fits a word in every table.
-fn position_of(level: u64, probe: u64) -> u64
-    requires { ⌜ (level < 32) × (probe < 8192) ⌝ }
-    ensures { λ r. ⌜ r ≡ phi (level + 1) (probe + 1) ⌝ }
+fn position_of(level: u64, probe: LogicalProbe) -> u64
+    requires { ⌜ (level < 32) × (probe .0 < 8192) ⌝ }
+    ensures { λ r. ⌜ r ≡ phi (level + 1) (probe .0 + 1) ⌝ }
 {
-    match phi_bounded((level + 1) as u32, probe + 1) {
+    match phi_bounded((level + 1) as u32, probe.0 + 1) {
         Bounded::At(position) => position,
         Bounded::Coord(coordinate) => 0,
         Bounded::Overflow => 0,

@@ -22,6 +22,7 @@ use probe::word::elastic_key;
 use refusal::Gate;
 use refusal::RangeRefusal;
 use words::place::GlobalSlot;
+use words::place::LogicalProbe;
 
 // Where an identity was found, and what the walk to it counted: the Rust's `ScalarElasticQuery`.
 pub struct Finding {
@@ -107,7 +108,14 @@ fn find(words: &[u64], flags: &[u8], look: Lookup) -> QueryAnswer
     requires { ⌜ Queried (look .n) (look .last) (look .«word_cap») (look .cap) (length (now words)) (length (now flags)) × (0 < look .cap) ⌝ }
     ensures { λ r. ⌜ r ≡ positionsOf (readingOf (look .n) (look .key) (look .«word_cap»)) (holdsAt (now (words .entry)) (now (flags .entry)) (look .id)) (look .last + 1) (look .cap) ⌝ }
 {
-    match route(look.key, look.n, look.last, look.word_cap, 0, 0) {
+    match route(
+        look.key,
+        look.n,
+        look.last,
+        look.word_cap,
+        0,
+        LogicalProbe(0),
+    ) {
         Reading::Refused(refusal) => {
             return QueryAnswer::Range(refusal);
         }
@@ -204,7 +212,8 @@ fn along(
     let mut m = mapped;
     let mut w = spent;
     while i < end {
-        match route(key, n, last, word_cap, i - 1, j - 1) {
+        let probe = LogicalProbe(j - 1);
+        match route(key, n, last, word_cap, i - 1, probe) {
             Reading::Refused(refusal) => {
                 return Scan::Refused(refusal);
             }
@@ -212,8 +221,9 @@ fn along(
                 w += charge(i, j, taken);
                 m += 1;
                 if holds(words, flags, id, slot) {
+                    let position = b + i;
                     return Scan::Hit {
-                        position: b + i,
+                        position,
                         slot,
                         mapped: m,
                         words: w,

@@ -10,6 +10,7 @@ use probe::counter::elastic_base;
 use probe::range::Drawn;
 use probe::range::elastic_draw;
 use refusal::RangeRefusal;
+use words::place::LogicalProbe;
 
 // What a probe reads: a slot of the table, with the words that its draw took; or that all its words were rejected.
 pub enum Reading {
@@ -19,7 +20,7 @@ pub enum Reading {
 
 // Where a search ends: at a vacant slot and the probe that read it, past its last probe, or refused.
 pub enum Sought {
-    Vacant { slot: u64, probe: u64 },
+    Vacant { slot: u64, probe: LogicalProbe },
     Passed,
     Refused(RangeRefusal),
 }
@@ -31,9 +32,9 @@ pub enum Located {
 }
 
 // The reading of a probe for the identity of a key: the Rust's `route`.
-pub fn route(key: u64, n: u64, last: u64, cap: u64, level: u64, probe: u64) -> Reading
-    requires { ⌜ Probed n last cap level × (probe < 8192) ⌝ }
-    ensures { λ r. ⌜ r ≡ readingOf n key cap level probe ⌝ }
+pub fn route(key: u64, n: u64, last: u64, cap: u64, level: u64, probe: LogicalProbe) -> Reading
+    requires { ⌜ Probed n last cap level × (probe .0 < 8192) ⌝ }
+    ensures { λ r. ⌜ r ≡ readingOf n key cap level (probe .0) ⌝ }
 {
     let offset = level_offset(n, level);
     let length = level_length(n, last, level);
@@ -57,13 +58,16 @@ pub fn seek(key: u64, n: u64, last: u64, cap: u64, flags: &[u8], level: u64, tri
 {
     let mut probe = 0;
     while probe < tries {
-        match route(key, n, last, cap, level, probe) {
+        match route(key, n, last, cap, level, LogicalProbe(probe)) {
             Reading::Refused(refusal) => {
                 return Sought::Refused(refusal);
             }
             Reading::Slot { slot, words } => {
                 if flags[slot as usize] == 0 {
-                    return Sought::Vacant { slot, probe };
+                    return Sought::Vacant {
+                        slot,
+                        probe: LogicalProbe(probe),
+                    };
                 }
             }
         }

@@ -20,6 +20,7 @@ use probe::word::FunnelKey;
 use probe::word::funnel_key;
 use refusal::RangeRefusal;
 use words::place::GlobalSlot;
+use words::place::LogicalProbe;
 use words::place::Place;
 
 // The search for an identity in a valid table. The key is worked out once.
@@ -177,5 +178,5 @@ fn sample(key: FunnelKey, domain: Domain, probe: u64, upper: u64, cap: u64) -> D
     requires { ⌜ (levelOf domain < 2 ^ 46) × (probe < 256) × (0 < upper) × (cap ≤ 256) ⌝ }
     ensures { λ r. ⌜ r ≡ drawOf (key .inner) (key .outer) (funnelCounterOf domain probe 0) upper cap ⌝ }
 {
-    funnel_draw(key, funnel_base(domain, probe), upper, cap)
+    funnel_draw(key, funnel_base(domain, LogicalProbe(probe)), upper, cap)
 }

@@ -49,7 +49,13 @@ pub(crate) fn keyed_word(inner: u64, outer: u64, counter: u64) -> u64
 }
 
 // One word of an elastic probe.
-pub fn elastic_word(seed: u64, identity: u64, level: u64, probe: LogicalProbe, retry: u64) -> ProbeWord
+pub fn elastic_word(
+    seed: u64,
+    identity: u64,
+    level: u64,
+    probe: LogicalProbe,
+    retry: u64,
+) -> ProbeWord
     ensures { λ r. ⌜ r ≡ elasticWordedOf seed identity level (probe .0) retry ⌝ }
 {
     match elastic_counter(level, probe, retry) {
@@ -62,7 +68,13 @@ pub fn elastic_word(seed: u64, identity: u64, level: u64, probe: LogicalProbe, r
 }
 
 // One word of a funnel probe.
-pub fn funnel_word(seed: u64, identity: u64, domain: Domain, probe: LogicalProbe, retry: u64) -> ProbeWord
+pub fn funnel_word(
+    seed: u64,
+    identity: u64,
+    domain: Domain,
+    probe: LogicalProbe,
+    retry: u64,
+) -> ProbeWord
     ensures { λ r. ⌜ r ≡ funnelWordedOf seed identity domain (probe .0) retry ⌝ }
 {
     match funnel_counter(domain, probe, retry) {

@@ -53,19 +53,27 @@ pub fn command(line: &[u8], end: usize, args: usize, out: &mut [u8], at: usize) 
         return put_decimal(out, at, mix64(a[0]));
     }
     if count == 3 && is_word(line, 0, end, b"EP") {
-        return put_packed(elastic_counter(a[0], a[1], a[2]), out, at);
+        return put_packed(elastic_counter(a[0], LogicalProbe(a[1]), a[2]), out, at);
     }
     if count == 4 && is_word(line, 0, end, b"FP") {
         return funnel_packed(a, out, at);
     }
     if count == 5 && is_word(line, 0, end, b"EW") {
-        return put_word(elastic_word(a[0], a[1], a[2], a[3], a[4]), out, at);
+        return put_word(
+            elastic_word(a[0], a[1], a[2], LogicalProbe(a[3]), a[4]),
+            out,
+            at,
+        );
     }
     if count == 6 && is_word(line, 0, end, b"FW") {
         return word_of_funnel(a, out, at);
     }
     if count == 6 && is_word(line, 0, end, b"ER") {
-        return put_reduced(elastic_reduce(a[0], a[1], a[2], a[3], a[4], a[5]), out, at);
+        return put_reduced(
+            elastic_reduce(a[0], a[1], a[2], LogicalProbe(a[3]), a[4], a[5]),
+            out,
+            at,
+        );
     }
     if count == 7 && is_word(line, 0, end, b"FR") {
         return reduced_of_funnel(a, out, at);
@@ -167,21 +175,29 @@ fn domain(tag: u64, level: u64) -> Named {
 fn funnel_packed(a: [u64; 7], out: &mut [u8], at: usize) -> usize {
     match domain(a[0], a[1]) {
         Named::Unknown => print::unknown(out, at),
-        Named::Is(d) => put_packed(funnel_counter(d, a[2], a[3]), out, at),
+        Named::Is(d) => put_packed(funnel_counter(d, LogicalProbe(a[2]), a[3]), out, at),
     }
 }
 
 fn word_of_funnel(a: [u64; 7], out: &mut [u8], at: usize) -> usize {
     match domain(a[2], a[3]) {
         Named::Unknown => print::unknown(out, at),
-        Named::Is(d) => put_word(funnel_word(a[0], a[1], d, a[4], a[5]), out, at),
+        Named::Is(d) => put_word(
+            funnel_word(a[0], a[1], d, LogicalProbe(a[4]), a[5]),
+            out,
+            at,
+        ),
     }
 }
 
 fn reduced_of_funnel(a: [u64; 7], out: &mut [u8], at: usize) -> usize {
     match domain(a[2], a[3]) {
         Named::Unknown => print::unknown(out, at),
-        Named::Is(d) => put_reduced(funnel_reduce(a[0], a[1], d, a[4], a[5], a[6]), out, at),
+        Named::Is(d) => put_reduced(
+            funnel_reduce(a[0], a[1], d, LogicalProbe(a[4]), a[5], a[6]),
+            out,
+            at,
+        ),
     }
 }
 

@@ -80,7 +80,7 @@ sub-t32 c =
     omega (arith, o, t .from)
 
 add-t32 : tie.Need-add-t32
-add-t32 c = let t = choose-taken _ _ _ _ (c .before .before .before .before .before .before .before .before .before .before .before .before .before .before .before .before .pre) _ _ _ _ _ (sym (c .before .before .before .before .before .before .before .before .before .before .choose .ensures) ∙ c .before .before .before .before .before .before .before .before .case .given .1) in omega (arith, t .in-time)
+add-t32 c = let t = choose-taken _ _ _ _ (c .before .before .before .before .before .before .before .before .before .before .before .before .before .before .before .before .before .pre) _ _ _ _ _ (sym (c .before .before .before .before .before .before .before .before .before .before .before .choose .ensures) ∙ c .before .before .before .before .before .before .before .before .before .case .given .1) in omega (arith, t .in-time)
 
 same-length-5 : tie.Need-same-length-5
 same-length-5 c = search needs
@@ -90,9 +90,9 @@ same-length-6 c = search needs
 
 returns-3 : tie.Need-returns-3
 returns-3 c =
-    let v = c .before .before .before .before .before .before .before .before .before .before .before .before .before .before .before .before .pre in
-    let t = choose-taken _ _ _ _ (c .before .before .before .before .before .before .before .before .before .before .before .before .before .before .before .before .pre) _ _ _ _ _ (sym (c .before .before .before .before .before .before .before .before .before .before .choose .ensures) ∙ c .before .before .before .before .before .before .before .before .case .given .1) in
-    place-inserted _ _ _ _ _ _ (c .before .before .before .before .before .before .before .before .before .before .choose .ensures) _ _ _ _ _ (c .before .before .before .before .before .before .before .before .case .given .1) (c .before .before .before .before .before .position-of .ensures) _ (c .before .before .before .if1 .left) (probed-offset (searching-probed (valid-searching v _ (t .has)) _ refl) _ (c .before .before .level-offset .ensures))
+    let v = c .before .before .before .before .before .before .before .before .before .before .before .before .before .before .before .before .before .pre in
+    let t = choose-taken _ _ _ _ (c .before .before .before .before .before .before .before .before .before .before .before .before .before .before .before .before .before .pre) _ _ _ _ _ (sym (c .before .before .before .before .before .before .before .before .before .before .before .choose .ensures) ∙ c .before .before .before .before .before .before .before .before .before .case .given .1) in
+    place-inserted _ _ _ _ _ _ (c .before .before .before .before .before .before .before .before .before .before .before .choose .ensures) _ _ _ _ _ (c .before .before .before .before .before .before .before .before .before .case .given .1) (c .before .before .before .before .before .before .position-of .ensures) _ (c .before .before .before .before .if1 .left) (probed-offset (searching-probed (valid-searching v _ (t .has)) _ refl) _ (c .before .before .before .level-offset .ensures))
 
 pub place-spec : {M : Type 1} → statement M
 place-spec =

@@ -26,13 +26,13 @@ enum-told : tie.Need-enum-told
 enum-told c = search needs
 
 returns : tie.Need-returns
-returns c = position-is _ _ (c .before .before .before .before .pre .0) (c .before .before .before .before .pre .1) _ (c .before .before .before .phi-bounded .ensures) _ (c .before .position .given .1)
+returns c = position-is _ _ (c .before .before .before .before .before .pre .0) (c .before .before .before .before .before .pre .1) _ (c .before .before .before .phi-bounded .ensures) _ (c .before .position .given .1)
 
 returns-2 : tie.Need-returns-2
-returns-2 c = position-coord _ _ (c .before .before .before .before .pre .0) (c .before .before .before .before .pre .1) _ (c .before .before .before .phi-bounded .ensures) _ (c .before .coordinate .given .1)
+returns-2 c = position-coord _ _ (c .before .before .before .before .before .pre .0) (c .before .before .before .before .before .pre .1) _ (c .before .before .before .phi-bounded .ensures) _ (c .before .coordinate .given .1)
 
 returns-3 : tie.Need-returns-3
-returns-3 c = position-over _ _ (c .before .before .before .pre .0) (c .before .before .before .pre .1) _ (c .before .before .phi-bounded .ensures) (c .enum-told .given .1)
+returns-3 c = position-over _ _ (c .before .before .before .before .pre .0) (c .before .before .before .before .pre .1) _ (c .before .before .phi-bounded .ensures) (c .enum-told .given .1)
 
 pub position-of-spec : {M : Type 1} → statement M
 position-of-spec =

@@ -42,10 +42,10 @@ loop-holds c =
     record { going = going-start _ _ _ _ _ _ _ _ _ (p .node) (p .miss) (p .fine); stop = omega arith }
 
 sub-route : tie.Need-sub-route Inv-loop μ-loop
-sub-route c = let t = turning (c .before .loop .inv) (c .before .before .before .before .before .before .pre .1 .node) (c .before .before .before .before .before .before .pre .1 .near) (c .before .before .before .before .before .before .pre .0 .near) (c .loop-test .taken) in t .pos
+sub-route c = let t = turning (c .before .loop .inv) (c .before .before .before .before .before .before .pre .1 .node) (c .before .before .before .before .before .before .pre .1 .near) (c .before .before .before .before .before .before .pre .0 .near) (c .loop-test .taken) in t .probe-pos
 
 sub-route-2 : tie.Need-sub-route-2 Inv-loop μ-loop
-sub-route-2 c = let t = turning (c .before .loop .inv) (c .before .before .before .before .before .before .pre .1 .node) (c .before .before .before .before .before .before .pre .1 .near) (c .before .before .before .before .before .before .pre .0 .near) (c .loop-test .taken) in t .probe-pos
+sub-route-2 c = let t = turning (c .before .loop .inv) (c .before .before .before .before .before .before .pre .1 .node) (c .before .before .before .before .before .before .pre .1 .near) (c .before .before .before .before .before .before .pre .0 .near) (c .loop-test .taken) in t .pos
 
 route-requires : tie.Need-route-requires Inv-loop μ-loop
 route-requires c κs =
@@ -89,8 +89,8 @@ holds-requires c κs =
     let q = c .before .before .before .before .before .before .before .before .before .before .before .pre .0 in
     (omega (arith, r .below, q .words-size), omega (arith, r .below, q .flags-size))
 
-add-t34 : tie.Need-add-t34 Inv-loop μ-loop
-add-t34 c =
+add-position : tie.Need-add-position Inv-loop μ-loop
+add-position c =
     let t = turning (c .before .before .before .before .before .before .before .before .loop .inv) (c .before .before .before .before .before .before .before .before .before .before .before .before .before .pre .1 .node) (c .before .before .before .before .before .before .before .before .before .before .before .before .before .pre .1 .near) (c .before .before .before .before .before .before .before .before .before .before .before .before .before .pre .0 .near) (c .before .before .before .before .before .before .before .loop-test .taken) in
     omega (arith, t .up, c .before .before .before .before .before .before .before .before .before .before .before .before .before .pre .0 .near)
 
@@ -148,7 +148,7 @@ along-spec =
     add-w
     add-m
     holds-requires
-    add-t34
+    add-position
     returns-2
     add-i
     loop-less
