@@ -5,6 +5,8 @@ pub type Plan = [u64; 11];
 pub type Counts = [u64; 118];
 /// A funnel table's numbers: n, e, seed, word cap, count, then the plan.
 pub type State = [u64; 16];
+/// An elastic table's numbers: n, e, seed, c, word cap, search cap, position cap, levels, maximum, count.
+pub type ElasticState = [u64; 10];
 
 unsafe extern "C" {
     fn bench_funnel_plan(n: u64, e: u32, plan: *mut Plan, counts: *mut Counts) -> bool;
@@ -51,6 +53,66 @@ unsafe extern "C" {
         flags_len: usize,
         identities: *const u64,
         identities_len: usize,
+    ) -> u64;
+    fn bench_check(
+        state: *const State,
+        counts: *const Counts,
+        words: *const u64,
+        words_len: usize,
+        flags: *const u8,
+        flags_len: usize,
+        marks: *mut u8,
+        marks_len: usize,
+        order: *mut u64,
+        order_len: usize,
+    ) -> u64;
+    fn bench_write_image(
+        state: *const State,
+        counts: *const Counts,
+        words: *const u64,
+        words_len: usize,
+        flags: *const u8,
+        flags_len: usize,
+        label: *const u8,
+        label_len: usize,
+        out: *mut u8,
+        out_len: usize,
+    ) -> u64;
+    fn bench_load_image(
+        state: *const State,
+        counts: *const Counts,
+        words: *mut u64,
+        words_len: usize,
+        flags: *mut u8,
+        flags_len: usize,
+        image: *const u8,
+        image_len: usize,
+    ) -> bool;
+    fn bench_elastic_open(
+        state: *mut ElasticState,
+        counts: *mut [u64; 32],
+        words: *mut u64,
+        words_len: usize,
+        flags: *mut u8,
+        flags_len: usize,
+    ) -> bool;
+    fn bench_elastic_insert(
+        state: *mut ElasticState,
+        counts: *mut [u64; 32],
+        words: *mut u64,
+        words_len: usize,
+        flags: *mut u8,
+        flags_len: usize,
+        identity: u64,
+    ) -> u64;
+    fn bench_elastic_query(
+        state: *const ElasticState,
+        counts: *const [u64; 32],
+        words: *const u64,
+        words_len: usize,
+        flags: *const u8,
+        flags_len: usize,
+        identity: u64,
     ) -> u64;
     fn bench_draws(seed: u64, identity: u64, cap: u64, counts: *const u64, levels: usize) -> u64;
 }
@@ -161,6 +223,127 @@ impl Funnel {
                 self.flags.len(),
                 identities.as_ptr(),
                 identities.len(),
+            )
+        }
+    }
+
+    /// How many members the check placed where it accepts the table, 0 where it does not.
+    pub fn check(&self, marks: &mut [u8], order: &mut [u64]) -> u64 {
+        unsafe {
+            bench_check(
+                &self.state,
+                &self.counts,
+                self.words.as_ptr(),
+                self.words.len(),
+                self.flags.as_ptr(),
+                self.flags.len(),
+                marks.as_mut_ptr(),
+                marks.len(),
+                order.as_mut_ptr(),
+                order.len(),
+            )
+        }
+    }
+
+    /// The length of the table's image with a label, 0 where it was not written.
+    pub fn write_image(&self, label: &[u8], out: &mut [u8]) -> u64 {
+        unsafe {
+            bench_write_image(
+                &self.state,
+                &self.counts,
+                self.words.as_ptr(),
+                self.words.len(),
+                self.flags.as_ptr(),
+                self.flags.len(),
+                label.as_ptr(),
+                label.len(),
+                out.as_mut_ptr(),
+                out.len(),
+            )
+        }
+    }
+
+    /// The table from an image of it; whether it was one.
+    pub fn load_image(&mut self, image: &[u8]) -> bool {
+        unsafe {
+            bench_load_image(
+                &self.state,
+                &self.counts,
+                self.words.as_mut_ptr(),
+                self.words.len(),
+                self.flags.as_mut_ptr(),
+                self.flags.len(),
+                image.as_ptr(),
+                image.len(),
+            )
+        }
+    }
+}
+
+/// An elastic table with its buffers.
+#[derive(Clone)]
+pub struct Elastic {
+    state: ElasticState,
+    counts: [u64; 32],
+    words: Vec<u64>,
+    flags: Vec<u8>,
+}
+
+impl Elastic {
+    /// A fresh table: n, e, seed, c, word cap, search cap, position cap.
+    pub fn open(numbers: [u64; 7]) -> Self {
+        let n = numbers[0] as usize;
+        let mut table = Self {
+            state: [0; 10],
+            counts: [0; 32],
+            words: vec![0; n],
+            flags: vec![0; n],
+        };
+        table.state[..7].copy_from_slice(&numbers);
+        let opened = unsafe {
+            bench_elastic_open(
+                &mut table.state,
+                &mut table.counts,
+                table.words.as_mut_ptr(),
+                table.words.len(),
+                table.flags.as_mut_ptr(),
+                table.flags.len(),
+            )
+        };
+        assert!(opened, "no elastic table of {numbers:?}");
+        table
+    }
+
+    pub fn maximum(&self) -> u64 {
+        self.state[8]
+    }
+
+    /// The phi of the identity's slot, 0 where it was refused.
+    pub fn insert(&mut self, identity: u64) -> u64 {
+        unsafe {
+            bench_elastic_insert(
+                &mut self.state,
+                &mut self.counts,
+                self.words.as_mut_ptr(),
+                self.words.len(),
+                self.flags.as_mut_ptr(),
+                self.flags.len(),
+                identity,
+            )
+        }
+    }
+
+    /// The identity's position, 0 where it was not found.
+    pub fn query(&self, identity: u64) -> u64 {
+        unsafe {
+            bench_elastic_query(
+                &self.state,
+                &self.counts,
+                self.words.as_ptr(),
+                self.words.len(),
+                self.flags.as_ptr(),
+                self.flags.len(),
+                identity,
             )
         }
     }

@@ -9,11 +9,11 @@ use crate::exact::probe::FunnelPrf;
 use crate::exact::reference::{ScalarFunnel, ScalarFunnelInsert, ScalarFunnelSearch};
 use crate::measure::Table;
 
-const SEED: u64 = 0x5EED;
-const CAP: u64 = 8;
+pub const SEED: u64 = 0x5EED;
+pub const CAP: u64 = 8;
 
 /// The k-th identity of a run: splitmix64's outputs, all different.
-fn identity(k: u64) -> u64 {
+pub fn identity(k: u64) -> u64 {
     let mut x = k.wrapping_add(1).wrapping_mul(0x9e37_79b9_7f4a_7c15);
     x = (x ^ (x >> 30)).wrapping_mul(0xbf58_476d_1ce4_e5b9);
     x = (x ^ (x >> 27)).wrapping_mul(0x94d0_49bb_1331_11eb);

@@ -12,9 +12,13 @@ mod exact {
 }
 
 mod calls;
+mod elastics;
 mod funnels;
+mod images;
 mod layouts;
 mod measure;
+#[path = "../../oracle/src/panics.rs"]
+mod panics;
 mod probes;
 
 fn main() {
@@ -23,4 +27,6 @@ fn main() {
     layouts::rows(&mut table);
     probes::rows(&mut table);
     funnels::rows(&mut table);
+    elastics::rows(&mut table);
+    images::rows(&mut table);
 }

@@ -13,7 +13,8 @@ pub struct Table {
 
 impl Table {
     pub fn new(wanted: Vec<String>) -> Self {
-        println!("{:<46} {:>12} {:>12} {:>7}", "", "ours, ns", "Rust, ns", "ratio");
+        println!("{:<46} {:>12} {:>12} {:>7}", "", "ours, ns", "other, ns", "ratio");
+        println!("(other: the Rust, or what the row names)");
         Self { wanted }
     }
 

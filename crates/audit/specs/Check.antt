@@ -1,16 +1,15 @@
 -- The check of an image: what it answers, and what it leaves in marks and order. Assumes nothing.
-use mathlib.Core.Bool.{Bool, true, false}
+use mathlib.Core.Bool.{Bool}
 use mathlib.Core.List.{List, [], _∷_}
 use mathlib.Core.Path.{_≡_}
 use Prim.Native.Nat.{ℕ}
-use lib.ListN.{length, getD, replicate}
-use lib.Dec.{eqb, ltb}
-use Rattle.words.specs.Pick.{pick}
+use lib.ListN.{length, replicate}
 use Rattle.refusal.specs.Table.{nameOf, Report, answered, refused}
 use Rattle.refusal.specs.declared.Name.the-variants as name
 use Rattle.geometry.specs.declared.config.Gated.{Gated}
 use Rattle.geometry.specs.declared.config.Gated.the-variants.{Passed, Refused}
 use Rattle.funnel.specs.declared.table.FunnelTable.{FunnelTable}
+use Rattle.funnel.specs.Dirty.{dirtyAt}
 use Rattle.funnel.specs.Calls.{gateThen, lengthsThen, tableGate}
 use Rattle.funnel.specs.Valid.{Valid}
 use Rattle.audit.specs.declared.check.Checked.{Checked}
@@ -18,10 +17,6 @@ use Rattle.audit.specs.declared.check.Checked.the-variants as checked
 use Rattle.audit.specs.declared.slots.First.{First}
 use Rattle.audit.specs.declared.slots.First.the-variants.{At, Nothing}
 use Rattle.audit.specs.Greedy.{firstFrom, unplaced, Taken, greedyOf}
-
--- DIRTY: "flag above 1, or vacant slot with nonzero word"
-unfoldable pub dirtyAt : (words flags : List ℕ) → ℕ → Bool
-dirtyAt words flags slot = pick (eqb (getD flags slot 0) 0) (pick (eqb (getD words slot 0) 0) false true) (ltb 1 (getD flags slot 0))
 
 -- what a check leaves
 pub record Ended : Type 0 where

@@ -19,7 +19,8 @@ use Rattle.audit.specs.declared.check.Checked.the-variants as checked
 use Rattle.audit.specs.declared.slots.First.{First}
 use Rattle.audit.specs.declared.slots.First.the-variants.{At, Nothing}
 use Rattle.audit.specs.Greedy.{firstFrom, unplaced, taken, greedyOf}
-use Rattle.audit.specs.Check.{dirtyAt, Ended, ended, answerOf, endOf, takeAll, auditOf, checkGate, checkOf, Lent}
+use Rattle.funnel.specs.Dirty.{dirtyAt}
+use Rattle.audit.specs.Check.{Ended, ended, answerOf, endOf, takeAll, auditOf, checkGate, checkOf, Lent}
 
 -- ---- a dirty slot
 

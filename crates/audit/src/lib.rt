@@ -14,7 +14,7 @@
 //     check.rt   the call, its gate and its answer: Accepted, Disorder, Dirty, or a refusal 1 to 7
 //     pass.rt    the two passes
 //     ready.rt   whether a slot is ready, and the next that is
-//     slots.rt   the first dirty slot, the first that is left, the clearing of the marks
+//     slots.rt   the first dirty slot, the first that is left
 //
 //     specs/Greedy.antt    the greedy order          specs/Check.antt   the check, its gate, its endings
 //     specs/*Laws.antt     what the proofs cite; OrdinaryLaws: why the rising pass is right

@@ -10,8 +10,8 @@ ghost use Rattle.funnel.specs.Valid.{Valid};
 use crate::ready::is_ready;
 use crate::ready::next_ready;
 use crate::slots::First;
-use crate::slots::clear;
 use funnel::table::FunnelTable;
+use words::clear::clear_bytes;
 
 // Takes from empty marks what can be taken, in 01's order: how many.
 pub fn take_members(
@@ -25,7 +25,7 @@ pub fn take_members(
     requires { ⌜ Valid table (now counts) (now words) (now flags) × (length (now marks) ≡ table .n) × (length (now order) ≡ table .n) ⌝ }
     ensures { λ r. ⌜ taken (now (marks .exit)) (now (order .exit)) r ≡ greedyOf table (now (counts .entry)) (now (words .entry)) (now (flags .entry)) (table .n) (table .n) (replicate (table .n) 0) (now (order .entry)) 0 ⌝ }
 {
-    clear(marks);
+    clear_bytes(marks);
     let start = table.n - table.plan.special_len;
     let ordinary = take_ordinary(table, counts, words, flags, marks, order, start);
     take_special(table, counts, words, flags, marks, order, start, ordinary)

@@ -1,8 +1,8 @@
-// Searches for the smallest slot with some property, and the clearing of the marks.
+// Searches for the smallest slot with some property.
 ghost use mathlib.Core.Path.{_≡_};
 ghost use Prim.Native.Nat.{_≤_};
-ghost use lib.ListN.{length, replicate};
-ghost use Rattle.audit.specs.Check.{dirtyAt};
+ghost use lib.ListN.{length};
+ghost use Rattle.funnel.specs.Dirty.{dirtyAt};
 ghost use Rattle.audit.specs.Greedy.{firstFrom, unplaced};
 
 // The smallest slot with a property, where there is one.
@@ -52,15 +52,4 @@ pub fn first_unplaced(flags: &[u8], marks: &[u8], n: u64) -> First
         }
     }
     First::Nothing
-}
-
-// Every mark 0.
-pub fn clear(marks: &mut [u8])
-    ensures { λ r. ⌜ now (marks .exit) ≡ replicate (length (now (marks .entry))) 0 ⌝ }
-{
-    let mut i = 0;
-    while i < marks.len() {
-        marks[i] = 0;
-        i += 1;
-    }
 }

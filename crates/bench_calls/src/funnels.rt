@@ -16,7 +16,7 @@ use funnel::table::Search;
 use geometry::config::Gated;
 use geometry::funnel::FunnelPlan;
 
-fn table_of(s: &[u64; 16]) -> FunnelTable {
+pub fn table_of(s: &[u64; 16]) -> FunnelTable {
     FunnelTable {
         n: s[0],
         e: (s[1] % 4294967296) as u32,

@@ -1,5 +1,7 @@
 // Calls for the measurements of bench/, on numbers and slices.
+mod elastics;
 mod funnels;
+mod images;
 
 use geometry::funnel::FunnelPlan;
 use geometry::funnel::FunnelPlanned;
@@ -11,6 +13,7 @@ use probe::range::Drawn;
 use probe::range::funnel_draw;
 use probe::word::FunnelKey;
 use probe::word::funnel_key;
+use words::place::LogicalProbe;
 
 pub fn plan_of(p: &[u64; 11]) -> FunnelPlan {
     FunnelPlan {
@@ -92,7 +95,12 @@ fn bucket(key: FunnelKey, level: u64, count: u64, cap: u64) -> u64 {
     if 118 <= level {
         return 0;
     }
-    match funnel_draw(key, funnel_base(Domain::Ordinary { level }, 0), count, cap) {
+    match funnel_draw(
+        key,
+        funnel_base(Domain::Ordinary { level }, LogicalProbe(0)),
+        count,
+        cap,
+    ) {
         Drawn::Index { index, words: _ } => index,
         Drawn::Refused(_) => 0,
     }

@@ -11,7 +11,8 @@ use Rattle.funnel.specs.declared.table.FunnelTable.{FunnelTable}
 use Rattle.audit.specs.declared.check.Checked.{Checked}
 use Rattle.audit.specs.declared.check.Checked.the-variants as checked
 use Rattle.audit.specs.declared.slots.First.the-variants.{At}
-use Rattle.audit.specs.Check.{Lent, dirtyAt, Ended, ended, checkOf}
+use Rattle.funnel.specs.Dirty.{dirtyAt}
+use Rattle.audit.specs.Check.{Lent, Ended, ended, checkOf}
 use Rattle.audit.specs.Greedy.{Found}
 use Rattle.audit.specs.FirstLaws.{first-found}
 use Rattle.audit.specs.ReadyLaws.{unplaced-facts, unplaced-yes}

@@ -16,7 +16,8 @@ use Rattle.audit.specs.declared.check.Checked.the-variants as checked
 use Rattle.audit.specs.declared.slots.First.{First}
 use Rattle.audit.specs.declared.slots.First.the-variants.{At, Nothing}
 use Rattle.audit.specs.Greedy.{firstFrom, unplaced, ready, Taken, greedyOf}
-use Rattle.audit.specs.Check.{Lent, dirtyAt, Ended, ended, answerOf, endOf, takeAll, unlessDirty, auditOf, checkOf}
+use Rattle.funnel.specs.Dirty.{dirtyAt}
+use Rattle.audit.specs.Check.{Lent, Ended, ended, answerOf, endOf, takeAll, unlessDirty, auditOf, checkOf}
 use Rattle.audit.specs.CheckLaws.{check-audit, clean-vacant, clean-flag}
 use Rattle.audit.specs.FirstLaws.{first-none, first-all}
 use Rattle.audit.specs.ReadyLaws.{unplaced-vacant, unplaced-marked, unplaced-yes}

@@ -14,7 +14,8 @@ use Rattle.funnel.specs.Search.{walkOf, searchOf, findOf}
 use Rattle.funnel.specs.Insert.{insertBy, insertOf}
 use Rattle.audit.specs.declared.check.Checked.the-variants as checked
 use Rattle.audit.specs.Greedy.{firstFrom, unplaced, ready, greedyOf}
-use Rattle.audit.specs.Check.{Ended, ended, dirtyAt, endOf, takeAll, auditOf}
+use Rattle.funnel.specs.Dirty.{dirtyAt}
+use Rattle.audit.specs.Check.{Ended, ended, endOf, takeAll, auditOf}
 
 abbrev plan : FunnelPlan
 plan =

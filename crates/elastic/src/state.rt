@@ -2,7 +2,7 @@
 ghost use mathlib.Core.Path.{_≡_};
 ghost use mathlib.Core.List.{List};
 ghost use Prim.Native.Nat.{ℕ, _+_, _-_, _*_, _<_, _≤_};
-ghost use lib.ListN.{length, replicate};
+ghost use lib.ListN.{length};
 ghost use Rattle.geometry.specs.Elastic.{split};
 ghost use Rattle.elastic.specs.State.{capFits, factorFits, limitsFit, buffersFit, countsFit, stateFits, settingGate, openGate, gateOf, opened, openOf};
 use geometry::config::Gated;
@@ -12,6 +12,8 @@ use geometry::elastic::ElasticPlan;
 use geometry::elastic::is_elastic_plan;
 use geometry::elastic::next_length;
 use refusal::Gate;
+use words::clear::clear_bytes;
+use words::clear::clear_words;
 use words::power::ceil_log2;
 
 // The caps of a table and c, the factor of its budgets: the Rust's `ScalarElasticLimits`.
@@ -56,9 +58,9 @@ pub fn open(
         Gated::Passed => {
             let levels = ceil_log2(n);
             let maximum = max_insertions(n, e);
-            zero_words(counts);
-            zero_words(words);
-            zero_flags(flags);
+            clear_words(counts);
+            clear_words(words);
+            clear_bytes(flags);
             let plan = ElasticPlan { levels, maximum };
             return Opened::Open(State {
                 n,
@@ -226,26 +228,4 @@ fn counts_fit(n: u64, levels: u64, count: u64, counts: &[u64]) -> bool
         i += 1;
     }
     left == 0
-}
-
-// Zeros in every word.
-fn zero_words(words: &mut [u64])
-    ensures { λ r. ⌜ now (words .exit) ≡ replicate (length (now (words .entry))) 0 ⌝ }
-{
-    let mut i = 0;
-    while i < words.len() {
-        words[i] = 0;
-        i += 1;
-    }
-}
-
-// Zeros in every flag.
-fn zero_flags(flags: &mut [u8])
-    ensures { λ r. ⌜ now (flags .exit) ≡ replicate (length (now (flags .entry))) 0 ⌝ }
-{
-    let mut i = 0;
-    while i < flags.len() {
-        flags[i] = 0;
-        i += 1;
-    }
 }

@@ -1,5 +1,6 @@
 pub mod CallLaws
 pub mod Calls
+pub mod Dirty
 pub mod Every
 pub mod EveryLaws
 pub mod Examples

@@ -15,6 +15,8 @@ use geometry::funnel::funnel_gate;
 use geometry::funnel::funnel_plan;
 use geometry::funnel::is_funnel_plan;
 use refusal::Gate;
+use words::clear::clear_bytes;
+use words::clear::clear_words;
 
 // "Funnel word cap 1 to 256"
 pub const MOST_WORDS: u64 = 256;
@@ -37,7 +39,7 @@ pub fn open(
             FunnelPlanned::Refused(g) => OpenAnswer::Gate(g),
             FunnelPlanned::Plan(plan) => {
                 clear_words(words);
-                clear_flags(flags);
+                clear_bytes(flags);
                 OpenAnswer::Table(FunnelTable {
                     n,
                     e,
@@ -200,26 +202,4 @@ fn lengths_gate(n: u64, words: u64, flags: u64) -> Gated
         return Gated::Refused(Gate::State);
     }
     Gated::Passed
-}
-
-// All words become 0.
-fn clear_words(words: &mut [u64])
-    ensures { λ r. ⌜ now (words .exit) ≡ replicate (length (now (words .entry))) 0 ⌝ }
-{
-    let mut i = 0;
-    while i < words.len() {
-        words[i] = 0;
-        i += 1;
-    }
-}
-
-// All flags become 0.
-fn clear_flags(flags: &mut [u8])
-    ensures { λ r. ⌜ now (flags .exit) ≡ replicate (length (now (flags .entry))) 0 ⌝ }
-{
-    let mut i = 0;
-    while i < flags.len() {
-        flags[i] = 0;
-        i += 1;
-    }
 }

@@ -1,17 +1,13 @@
--- Entries that are 0 from one on: cleared, and gathered bit by bit. Assumes nothing.
+-- Entries that are 0 from one on, gathered bit by bit. Assumes nothing.
 use mathlib.Core.Path.{_≡_, refl, sym, ap, _∙_}
-use mathlib.Core.List.{List, _++_, append-nil}
+use mathlib.Core.List.{List}
 use Prim.Native.Nat.{ℕ, zero, suc, _+_, _-_, _≤_, _<_}
 use native.Mathlib.Nat.{lt-of-not-le}
 use native.Mathlib.Decide.{decLe}
 use native.Mathlib.Omega.{arith}
 use lib.Bits.{bitOr, or-add-and, and-le-l, and-le-r, or-zero-l}
-use lib.ListN.{length, drop, getD, replicate, length-drop, length-replicate, getD-replicate, drop-of-length-le}
+use lib.ListN.{length, drop, getD, replicate, length-drop, length-replicate, getD-replicate}
 use lib.Seq.{getD-drop, ext-getD}
-
--- a list that is cleared to its end
-pub cleared : (n : ℕ) (l : List ℕ) → length l ≤ n → n ≤ length l → replicate n 0 ++ drop n l ≡ replicate (length l) 0
-cleared n l a b = let e : n ≡ length l = omega arith in rw (drop-of-length-le l a, append-nil, e)
 
 pub drop-zeros : (n k : ℕ) → drop {A = ℕ} k (replicate n 0) ≡ replicate (n - k) 0
 drop-zeros n zero = let e : n - 0 ≡ n = omega arith in rw e

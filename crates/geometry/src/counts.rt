@@ -3,7 +3,7 @@
 ghost use mathlib.Core.Path.{_≡_};
 ghost use Prim.Native.Nat.{ℕ, _<_, _≤_};
 ghost use lib.Dec.{leb};
-ghost use lib.ListN.{length, replicate};
+ghost use lib.ListN.{length};
 ghost use Rattle.geometry.specs.Extreme.{IsLargest, IsSmallest};
 ghost use Rattle.geometry.specs.Counts.{low, high, lowSum, highSum, Follows, First};
 ghost use Rattle.geometry.specs.Filled.{Fits, Filled};
@@ -143,15 +143,4 @@ pub fn maximum_next_bucket_count(x: u64) -> u64
     ensures { λ r. ⌜ r ≡ high x ⌝ }
 {
     if x == 0 { 0 } else { x - (x - 1) / 4 }
-}
-
-// All entries become 0.
-pub fn clear(counts: &mut [u64])
-    ensures { λ r. ⌜ now (counts .exit) ≡ replicate (length (now (counts .entry))) 0 ⌝ }
-{
-    let mut i = 0;
-    while i < counts.len() {
-        counts[i] = 0;
-        i += 1;
-    }
 }

@@ -12,13 +12,13 @@ use crate::config::Gated;
 use crate::config::LARGEST_N;
 use crate::config::config_gate;
 use crate::config::max_insertions;
-use crate::counts::clear;
 use crate::counts::fill_counts;
 use crate::counts_test::plan_counts_hold;
 use crate::special::base_two_loglog_ceiling;
 use crate::special::special_len_of;
 use crate::special::special_parts_hold;
 use refusal::Gate;
+use words::clear::clear_words;
 
 // The numbers of a plan; the counts of its levels are lent beside it, 118 of them, 0 past the last level.
 pub struct FunnelPlan {
@@ -130,7 +130,7 @@ fn write_plan(n: u64, e: u32, s: u64, counts: &mut [u64; 118]) -> FunnelPlan
     let beta = 2 * x;
     let g = base_two_loglog_ceiling(n);
     let t = (n - s) / beta;
-    clear(counts);
+    clear_words(counts);
     fill_counts(t, alpha as usize, counts);
     FunnelPlan {
         maximum: max_insertions(n, e),

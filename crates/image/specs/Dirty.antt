@@ -1,22 +1,18 @@
--- DIRTY: "flag above 1, or vacant slot with nonzero word; smallest such slot". Assumes nothing.
-use mathlib.Core.Bool.{Bool, true, false}
+-- The scan for DIRTY: "smallest such slot". Assumes nothing.
 use mathlib.Core.List.{List}
 use Prim.Native.Nat.{ℕ, zero, suc, _+_}
 use lib.ListN.{length, getD}
-use lib.Dec.{eqb, ltb}
+use lib.Dec.{eqb}
 use Rattle.words.specs.Pick.{pick}
+use Rattle.funnel.specs.Dirty.{dirtyAt}
 use Rattle.image.specs.declared.dirty.Scan.{Scan}
 use Rattle.image.specs.declared.dirty.Scan.the-variants.{Dirty, Clean}
-
--- whether a slot with this word and this flag is dirty
-unfoldable pub dirty : ℕ → ℕ → Bool
-dirty word flag = pick (ltb 1 flag) true (pick (eqb flag 0) (pick (eqb word 0) false true) false)
 
 -- the smallest dirty one of k slots from slot s on; if there is none, `count` and the number of occupied ones
 unfoldable pub scanFrom : List ℕ → List ℕ → ℕ → ℕ → ℕ → Scan
 scanFrom words flags s zero count = Clean count
 scanFrom words flags s (suc k) count =
-    pick (dirty (getD words s 0) (getD flags s 0)) (Dirty s)
+    pick (dirtyAt words flags s) (Dirty s)
     (scanFrom words flags (suc s) k (pick (eqb (getD flags s 0) 0) count (count + 1)))
 
 -- of a whole table

@@ -9,7 +9,8 @@ use lib.Dec.{eqb}
 use borrow.Author.Tests.{lt-ltb, le-ltb, eq-eqb, ne-eqb}
 use Rattle.words.specs.Pick.{pick}
 use Rattle.image.specs.Format.{entry, entriesFrom, entriesOf}
-use Rattle.image.specs.Dirty.{dirty, scanFrom, scanOf}
+use Rattle.funnel.specs.Dirty.{dirtyAt}
+use Rattle.image.specs.Dirty.{scanFrom, scanOf}
 use Rattle.image.specs.declared.dirty.Scan.the-variants.{Dirty, Clean}
 
 pub record Scanning (words flags : List ℕ) (s count : ℕ) : Type 0 where
@@ -24,7 +25,7 @@ scan-none words flags = let e : length flags - 0 ≡ length flags = omega arith 
 module _ {words flags : List ℕ} {s count : ℕ} (l : Scanning words flags s count) where
   module _ (h : s < length flags) where
     step : scanOf words flags
-        ≡ pick (dirty (getD words s 0) (getD flags s 0)) (Dirty s) (scanFrom words flags (s + 1) (length flags - (s + 1)) (pick (eqb (getD flags s 0) 0) count (count + 1)))
+        ≡ pick (dirtyAt words flags s) (Dirty s) (scanFrom words flags (s + 1) (length flags - (s + 1)) (pick (eqb (getD flags s 0) 0) count (count + 1)))
     unfolding scanFrom
     step =
         let k : length flags - s ≡ suc (length flags - (s + 1)) = omega arith in
@@ -32,21 +33,21 @@ module _ {words flags : List ℕ} {s count : ℕ} (l : Scanning words flags s co
         l .left ∙ rw (k, a)
 
     pub scan-flag : 1 < getD flags s 0 → Dirty s ≡ scanOf words flags
-    unfolding dirty
-    scan-flag f = sym (step ∙ rw (lt-ltb _ _ f))
+    unfolding dirtyAt
+    scan-flag f = sym (step ∙ rw (ne-eqb (getD flags s 0) 0 (λ z. omega arith), lt-ltb _ _ f))
 
     module _ (f : getD flags s 0 ≤ 1) where
       pub scan-word : getD flags s 0 ≡ 0 → (getD words s 0 ≡ 0 → ⊥) → Dirty s ≡ scanOf words flags
-      unfolding dirty
-      scan-word e n = sym (step ∙ rw (le-ltb _ _ f, eq-eqb _ _ e, ne-eqb _ _ n))
+      unfolding dirtyAt
+      scan-word e n = sym (step ∙ rw (eq-eqb _ _ e, ne-eqb _ _ n))
 
       pub scan-vacant : getD flags s 0 ≡ 0 → getD words s 0 ≡ 0 → Scanning words flags (s + 1) count
-      unfolding dirty
-      scan-vacant e z = let d = l .few in record { left = step ∙ rw (le-ltb _ _ f, eq-eqb _ _ e, eq-eqb _ _ z); few = omega arith; within = omega arith }
+      unfolding dirtyAt
+      scan-vacant e z = let d = l .few in record { left = step ∙ rw (eq-eqb _ _ e, eq-eqb _ _ z); few = omega arith; within = omega arith }
 
       pub scan-taken : (getD flags s 0 ≡ 0 → ⊥) → Scanning words flags (s + 1) (count + 1)
-      unfolding dirty
-      scan-taken e = let d = l .few in record { left = step ∙ rw (le-ltb _ _ f, ne-eqb _ _ e); few = omega arith; within = omega arith }
+      unfolding dirtyAt
+      scan-taken e = let d = l .few in record { left = step ∙ rw (ne-eqb _ _ e, le-ltb _ _ f); few = omega arith; within = omega arith }
 
   pub scan-end : length flags ≤ s → Clean count ≡ scanOf words flags
   unfolding scanFrom
@@ -58,7 +59,7 @@ pub scan-count : (words flags : List ℕ) (s k c m : ℕ) → scanFrom words fla
 unfolding scanFrom entriesFrom
 scan-count words flags s zero c m h = let q : c ≡ m = cc in omega arith
 scan-count words flags s (suc k) c m h =
-    go (dirty (getD words s 0) (getD flags s 0)) (eqb (getD flags s 0) 0) h (scan-count words flags (suc s) k c m) (scan-count words flags (suc s) k (c + 1) m)
+    go (dirtyAt words flags s) (eqb (getD flags s 0) 0) h (scan-count words flags (suc s) k c m) (scan-count words flags (suc s) k (c + 1) m)
   where
     go : (d z : Bool) → pick d (Dirty s) (scanFrom words flags (suc s) k (pick z c (c + 1))) ≡ Clean m
         → (scanFrom words flags (suc s) k c ≡ Clean m → m ≡ c + length (entriesFrom words flags (suc s) k))

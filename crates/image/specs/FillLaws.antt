@@ -87,23 +87,3 @@ pub length-fill-flags : (w : List ℕ) (es : List Entry) → length (fillFlags w
 unfolding fillFlags
 length-fill-flags w [] = refl
 length-fill-flags w (x ∷ es) = length-fill-flags (set w (x .slot) 1) es ∙ length-set w (x .slot) 1
-
--- ---- zeroing
-
--- zeros up to i, and what was there from i on
-pub record Clearing (before now : List ℕ) (i : ℕ) : Type 0 where
-  pub is : now ≡ replicate i 0 ++ drop i before
-  pub size : length now ≡ length before
-
-pub clearing-none : (before : List ℕ) → Clearing before before 0
-clearing-none before = record { is = refl; size = refl }
-
-module _ {before now : List ℕ} {i : ℕ} (c : Clearing before now i) where
-  pub clearing-more : i < length before → Clearing before (set now i 0) (i + 1)
-  clearing-more h =
-      let e : set now i 0 ≡ replicate i 0 ++ (0 ∷ drop (suc i) before) = rw (c .is, drop-cons before i 0 h) (set-at (replicate i 0) (getD before i 0) (drop (suc i) before) 0 i (length-replicate i 0)) in
-      let r : _≡_ {A = List ℕ} (_++_ {A = ℕ} (replicate i 0) (0 ∷ [])) (replicate (i + 1) 0) = replicate-append-replicate i 1 0 in
-      record { is = e ∙ sym (append-snoc (replicate i 0) 0 (drop (suc i) before)) ∙ rw (r, add-one); size = simp length-set (c .size) }
-
-  pub clearing-end : i ≡ length before → now ≡ replicate (length before) 0
-  clearing-end e = c .is ∙ rw (e, drop-length, append-nil)

@@ -16,6 +16,8 @@ use crate::reader::Outcome;
 use crate::reader::read;
 use funnel::table::FunnelTable;
 use words::bytes::read64;
+use words::clear::clear_bytes;
+use words::clear::clear_words;
 
 // What loading into valid buffers comes to: IMAGE with its place, FOREIGN, or the number of entries and the label's place.
 pub enum Filled {
@@ -49,7 +51,7 @@ pub fn load(table: FunnelTable, words: &mut [u64], flags: &mut [u8], image: &[u8
                 return Filled::Foreign;
             }
             clear_words(words);
-            clear_flags(flags);
+            clear_bytes(flags);
             fill_image(image, words, flags);
             return Filled::Done {
                 count: head.count as u64,
@@ -70,30 +72,6 @@ fn own(n: u64, e: u64, seed: u64, head: Head) -> bool
         }
     }
     false
-}
-
-// Every word 0.
-fn clear_words(words: &mut [u64])
-    ensures { λ r. ⌜ now (words .exit) ≡ replicate (length (now (words .entry))) 0 ⌝ }
-{
-    let n = words.len();
-    let mut i = 0;
-    while i < n {
-        words[i] = 0;
-        i += 1;
-    }
-}
-
-// Every flag 0.
-fn clear_flags(flags: &mut [u8])
-    ensures { λ r. ⌜ now (flags .exit) ≡ replicate (length (now (flags .entry))) 0 ⌝ }
-{
-    let n = flags.len();
-    let mut i = 0;
-    while i < n {
-        flags[i] = 0;
-        i += 1;
-    }
 }
 
 // Both buffers hold the entries of a right image besides what they held. A right image has no wrong field, so nothing is

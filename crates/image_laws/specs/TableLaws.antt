@@ -9,7 +9,8 @@ use lib.Seq.{take-suc, take-all, append-snoc, set-at, length-take-le, getD-set-s
 use lib.Dec.{eqb, ltb}
 use borrow.Author.Tests.{eqb-true, eqb-false, ltb-true, ltb-false, le-leb, lt-ltb}
 use Rattle.words.specs.Pick.{pick}
-use Rattle.image.specs.Dirty.{dirty, scanFrom, scanOf}
+use Rattle.funnel.specs.Dirty.{dirtyAt}
+use Rattle.image.specs.Dirty.{scanFrom, scanOf}
 use Rattle.image.specs.Fill.{fillWords, fillFlags}
 use Rattle.image.specs.FillLaws.{risen-head, length-fill-flags}
 use Rattle.image.specs.Format.{Entry, entry, entriesFrom, entriesOf}
@@ -20,31 +21,31 @@ use Rattle.image.specs.declared.dirty.Scan.the-variants.{Dirty, Clean}
 -- ---- a clean slot
 
 -- a vacant slot holds 0
-clean-vacant : (word flag : ℕ) → dirty word flag ≡ false → eqb flag 0 ≡ true → word ≡ 0
-unfolding dirty
-clean-vacant word flag h z = go (ltb 1 flag) (eqb word 0) refl (rw z at h)
+clean-vacant : (words flags : List ℕ) (s : ℕ) → dirtyAt words flags s ≡ false → eqb (getD flags s 0) 0 ≡ true → getD words s 0 ≡ 0
+unfolding dirtyAt
+clean-vacant words flags s h z = go (eqb (getD words s 0) 0) refl (rw z at h)
   where
-    go : (u v : Bool) → eqb word 0 ≡ v → pick u true (pick v false true) ≡ false → word ≡ 0
-    go false true e h = eqb-true _ _ e
-    go false false e h = not-both h
-    go true v e h = not-both h
+    go : (v : Bool) → eqb (getD words s 0) 0 ≡ v → pick v false true ≡ false → getD words s 0 ≡ 0
+    go true e h = eqb-true _ _ e
+    go false e h = not-both h
 
 -- and an occupied one has the flag 1
-clean-taken : (word flag : ℕ) → dirty word flag ≡ false → eqb flag 0 ≡ false → flag ≡ 1
-unfolding dirty
-clean-taken word flag h z =
-    let n : flag ≡ 0 → ⊥ = eqb-false _ _ z in
-    cases (ltb 1 flag) (λ t. not-both (rw t at h)) (λ f. let l : flag ≤ 1 = ltb-false _ _ f in omega (arith, n))
+clean-taken : (words flags : List ℕ) (s : ℕ) → dirtyAt words flags s ≡ false → eqb (getD flags s 0) 0 ≡ false → getD flags s 0 ≡ 1
+unfolding dirtyAt
+clean-taken words flags s h z =
+    let n : getD flags s 0 ≡ 0 → ⊥ = eqb-false _ _ z in
+    let l : getD flags s 0 ≤ 1 = ltb-false _ _ (rw z at h) in
+    omega (arith, n)
 
 record CleanAt (words flags : List ℕ) (s k c m : ℕ) : Type 0 where
-  here : dirty (getD words s 0) (getD flags s 0) ≡ false
+  here : dirtyAt words flags s ≡ false
   rest : scanFrom words flags (suc s) k (pick (eqb (getD flags s 0) 0) c (c + 1)) ≡ Clean m
 
 clean-at : (words flags : List ℕ) (s k c m : ℕ) → scanFrom words flags s (suc k) c ≡ Clean m → CleanAt words flags s k c m
 unfolding scanFrom
-clean-at words flags s k c m h = go (dirty (getD words s 0) (getD flags s 0)) refl h
+clean-at words flags s k c m h = go (dirtyAt words flags s) refl h
   where
-    go : (d : Bool) → dirty (getD words s 0) (getD flags s 0) ≡ d → pick d (Dirty s) (scanFrom words flags (suc s) k (pick (eqb (getD flags s 0) 0) c (c + 1))) ≡ Clean m → CleanAt words flags s k c m
+    go : (d : Bool) → dirtyAt words flags s ≡ d → pick d (Dirty s) (scanFrom words flags (suc s) k (pick (eqb (getD flags s 0) 0) c (c + 1))) ≡ Clean m → CleanAt words flags s k c m
     go true e h = let z : _≡_ {A = ℕ} 0 1 = cc in absurd (omega arith)
     go false e h = record { here = e; rest = h }
 
@@ -78,7 +79,7 @@ fill-words-from words flags (suc k) s c m h q = go (eqb (getD flags s 0) 0) refl
     go : (z : Bool) → eqb (getD flags s 0) 0 ≡ z
         → ((c m : ℕ) → suc s + k ≡ length words → scanFrom words flags (suc s) k c ≡ Clean m → fillWords (take (suc s) words ++ replicate k 0) (entriesFrom words flags (suc s) k) ≡ words)
         → fillWords (take s words ++ replicate (suc k) 0) (pick z (entriesFrom words flags (suc s) k) (entry s (getD words s 0) ∷ entriesFrom words flags (suc s) k)) ≡ words
-    go true e ih = rw (put-kept words s k l (clean-vacant _ _ (a .here) e)) (ih _ _ (omega arith) (a .rest))
+    go true e ih = rw (put-kept words s k l (clean-vacant words flags s (a .here) e)) (ih _ _ (omega arith) (a .rest))
     go false e ih = ap (λ (x : List ℕ). fillWords x (entriesFrom words flags (suc s) k)) (put-set words s k l (getD words s 0) refl) ∙ ih _ _ (omega arith) (a .rest)
 
 fill-flags-from : (words flags : List ℕ) (k s c m : ℕ) → s + k ≡ length flags → scanFrom words flags s k c ≡ Clean m
@@ -97,7 +98,7 @@ fill-flags-from words flags (suc k) s c m h q = go (eqb (getD flags s 0) 0) refl
         → ((c m : ℕ) → suc s + k ≡ length flags → scanFrom words flags (suc s) k c ≡ Clean m → fillFlags (take (suc s) flags ++ replicate k 0) (entriesFrom words flags (suc s) k) ≡ flags)
         → fillFlags (take s flags ++ replicate (suc k) 0) (pick z (entriesFrom words flags (suc s) k) (entry s (getD words s 0) ∷ entriesFrom words flags (suc s) k)) ≡ flags
     go true e ih = rw (put-kept flags s k l (eqb-true _ _ e)) (ih _ _ (omega arith) (a .rest))
-    go false e ih = ap (λ (x : List ℕ). fillFlags x (entriesFrom words flags (suc s) k)) (put-set flags s k l 1 (clean-taken _ _ (a .here) e)) ∙ ih _ _ (omega arith) (a .rest)
+    go false e ih = ap (λ (x : List ℕ). fillFlags x (entriesFrom words flags (suc s) k)) (put-set flags s k l 1 (clean-taken words flags s (a .here) e)) ∙ ih _ _ (omega arith) (a .rest)
 
 module _ (words flags : List ℕ) (c : ℕ) (h : scanOf words flags ≡ Clean c) (l : length words ≡ length flags) where
   pub fill-words-entries : fillWords (replicate (length words) 0) (entriesOf words flags) ≡ words
@@ -174,11 +175,11 @@ record Holds (words flags : List ℕ) (s k c : ℕ) (es : List Entry) : Type 0 w
 
 -- a vacant slot, and an occupied one
 holds-vacant : (words flags : List ℕ) (s k c : ℕ) (es : List Entry) → getD words s 0 ≡ 0 → getD flags s 0 ≡ 0 → Holds words flags (suc s) k c es → Holds words flags s (suc k) c es
-unfolding entriesFrom scanFrom dirty
+unfolding entriesFrom scanFrom dirtyAt
 holds-vacant words flags s k c es w f h = record { entries = rw f (h .entries); scan = rw (w, f) (h .scan) }
 
 holds-taken : (words flags : List ℕ) (s k c x : ℕ) (es : List Entry) → getD words s 0 ≡ x → getD flags s 0 ≡ 1 → Holds words flags (suc s) k (c + 1) es → Holds words flags s (suc k) c (entry s x ∷ es)
-unfolding entriesFrom scanFrom dirty
+unfolding entriesFrom scanFrom dirtyAt
 holds-taken words flags s k c x es w f h =
     let m : c + 1 + length es ≡ c + suc (length es) = omega arith in
     record { entries = rw (f, w, h .entries); scan = rw f (h .scan ∙ ap Clean m) }
@@ -241,15 +242,15 @@ module _ (n : ℕ) (es : List Entry) (r : rising n 0 es ≡ true) where
 -- d is the smallest dirty one of the slots from s on
 pub record SmallestDirty (words flags : List ℕ) (s d : ℕ) : Type 0 where
   pub from : s ≤ d
-  pub here : dirty (getD words d 0) (getD flags d 0) ≡ true
-  pub below : (t : ℕ) → s ≤ t → t < d → dirty (getD words t 0) (getD flags t 0) ≡ false
+  pub here : dirtyAt words flags d ≡ true
+  pub below : (t : ℕ) → s ≤ t → t < d → dirtyAt words flags t ≡ false
 
 scan-smallest-from : (words flags : List ℕ) (k s c d : ℕ) → scanFrom words flags s k c ≡ Dirty d → SmallestDirty words flags s d
 unfolding scanFrom
 scan-smallest-from words flags zero s c d h = let z : _≡_ {A = ℕ} 0 1 = cc in absurd (omega arith)
-scan-smallest-from words flags (suc k) s c d h = go (dirty (getD words s 0) (getD flags s 0)) refl h (λ e g. scan-smallest-from words flags k (suc s) e d g)
+scan-smallest-from words flags (suc k) s c d h = go (dirtyAt words flags s) refl h (λ e g. scan-smallest-from words flags k (suc s) e d g)
   where
-    go : (x : Bool) → dirty (getD words s 0) (getD flags s 0) ≡ x → pick x (Dirty s) (scanFrom words flags (suc s) k (pick (eqb (getD flags s 0) 0) c (c + 1))) ≡ Dirty d
+    go : (x : Bool) → dirtyAt words flags s ≡ x → pick x (Dirty s) (scanFrom words flags (suc s) k (pick (eqb (getD flags s 0) 0) c (c + 1))) ≡ Dirty d
         → ((e : ℕ) → scanFrom words flags (suc s) k e ≡ Dirty d → SmallestDirty words flags (suc s) d) → SmallestDirty words flags s d
     go true e h ih = let q : s ≡ d = cc in rw (← q) (record { from = omega arith; here = e; below = λ t a b. absurd (omega arith) })
     go false e h ih =
@@ -267,14 +268,14 @@ unfolding scanOf
 scan-smallest words flags d h = scan-smallest-from words flags (length flags) 0 0 d h
 
 -- a table with no dirty slot has none
-clean-from : (words flags : List ℕ) (k s c m : ℕ) → scanFrom words flags s k c ≡ Clean m → (t : ℕ) → s ≤ t → t < s + k → dirty (getD words t 0) (getD flags t 0) ≡ false
+clean-from : (words flags : List ℕ) (k s c m : ℕ) → scanFrom words flags s k c ≡ Clean m → (t : ℕ) → s ≤ t → t < s + k → dirtyAt words flags t ≡ false
 clean-from words flags zero s c m h t a b = absurd (omega arith)
 clean-from words flags (suc k) s c m h t a b =
     let r = clean-at words flags s k c m h in
     cases (eqb t s) (λ y. let q : t ≡ s = eqb-true _ _ y in rw q (r .here))
     (λ y. let n : t ≡ s → ⊥ = eqb-false _ _ y in clean-from words flags k (suc s) _ m (r .rest) t (omega (arith, n)) (omega arith))
 
-pub scan-clean : (words flags : List ℕ) (c : ℕ) → scanOf words flags ≡ Clean c → (t : ℕ) → t < length flags → dirty (getD words t 0) (getD flags t 0) ≡ false
+pub scan-clean : (words flags : List ℕ) (c : ℕ) → scanOf words flags ≡ Clean c → (t : ℕ) → t < length flags → dirtyAt words flags t ≡ false
 unfolding scanOf
 scan-clean words flags c h t l = clean-from words flags (length flags) 0 0 c h t (omega arith) (omega arith)
 

@@ -1,5 +1,6 @@
 pub mod Bytes
 pub mod BytesLaws
+pub mod ClearLaws
 pub mod Columns
 pub mod Log
 pub mod LogLaws

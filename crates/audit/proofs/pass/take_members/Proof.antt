@@ -10,14 +10,14 @@ use borrow.Author.Needs.{needs}
 use Rattle.audit.proofs.pass.take_members.Statement.{statement}
 use Rattle.audit.proofs.pass.take_members.Tie as tie
 
-clear-requires : tie.Need-clear-requires
-clear-requires c κs = search needs
+clear-bytes-requires : tie.Need-clear-bytes-requires
+clear-bytes-requires c κs = search needs
 
 sub-start : tie.Need-sub-start
 sub-start c = let f = plan-facts (c .before .before .before .before .before .before .before .before .before .pre .0 .planned) in omega arith
 
 take-ordinary-requires : tie.Need-take-ordinary-requires
-take-ordinary-requires c κs = (valid-marks (c .before .before .before .before .before .before .before .before .before .before .before .pre .0) _ (ap length (c .before .before .before .before .before .clear .ensures) ∙ length-replicate _ _ ∙ c .before .before .before .before .before .before .before .before .before .before .before .pre .1), c .before .before .before .before .before .before .before .before .before .before .before .pre .0 .flags-length, c .before .before .before .before .before .before .before .before .before .before .before .pre .2, sym (primary-start (c .before .before .before .before .before .before .before .before .before .before .before .pre .0 .planned)), omega arith)
+take-ordinary-requires c κs = (valid-marks (c .before .before .before .before .before .before .before .before .before .before .before .pre .0) _ (ap length (c .before .before .before .before .before .clear-bytes .ensures) ∙ length-replicate _ _ ∙ c .before .before .before .before .before .before .before .before .before .before .before .pre .1), c .before .before .before .before .before .before .before .before .before .before .before .pre .0 .flags-length, c .before .before .before .before .before .before .before .before .before .before .before .pre .2, sym (primary-start (c .before .before .before .before .before .before .before .before .before .before .before .pre .0 .planned)), omega arith)
 
 take-special-requires : tie.Need-take-special-requires
 take-special-requires c κs = (valid-marks (c .before .before .before .before .before .before .before .before .before .before .before .before .before .before .before .before .before .before .pre .0) _ (c .before .before .before .before .before .before .take-ordinary .ensures .marks-n), c .before .before .before .before .before .before .before .before .before .before .before .before .before .before .before .before .before .before .pre .0 .flags-length, sym (primary-start (c .before .before .before .before .before .before .before .before .before .before .before .before .before .before .before .before .before .before .pre .0 .planned)), omega arith, going-on (c .before .before .before .before .before .before .take-ordinary .ensures))
@@ -29,13 +29,13 @@ same-length-2 : tie.Need-same-length-2
 same-length-2 c = search needs
 
 returns : tie.Need-returns
-returns c = c .before .before .before .before .take-special .ensures ∙ sym (c .before .before .before .before .before .before .before .before .before .before .before .take-ordinary .ensures .left) ∙ greedy-cleared _ _ _ _ _ _ (now (c .before .before .before .before .before .before .before .before .before .before .before .before .before .before .before .before .before .before .before .before .before .before .before .args .marks)) (c .before .before .before .before .before .before .before .before .before .before .before .before .before .before .before .before .before .clear .ensures) (c .before .before .before .before .before .before .before .before .before .before .before .before .before .before .before .before .before .before .before .before .before .before .before .pre .1)
+returns c = c .before .before .before .before .take-special .ensures ∙ sym (c .before .before .before .before .before .before .before .before .before .before .before .take-ordinary .ensures .left) ∙ greedy-cleared _ _ _ _ _ _ (now (c .before .before .before .before .before .before .before .before .before .before .before .before .before .before .before .before .before .before .before .before .before .before .before .args .marks)) (c .before .before .before .before .before .before .before .before .before .before .before .before .before .before .before .before .before .clear-bytes .ensures) (c .before .before .before .before .before .before .before .before .before .before .before .before .before .before .before .before .before .before .before .before .before .before .before .pre .1)
 
 pub take-members-spec : {M : Type 1} → statement M
 take-members-spec =
     tie.close
     (tie.spec
-    clear-requires
+    clear-bytes-requires
     sub-start
     take-ordinary-requires
     take-special-requires

@@ -25,14 +25,14 @@ ceil-log2-requires c κs = search needs
 max-insertions-requires : tie.Need-max-insertions-requires
 max-insertions-requires c κs = search needs
 
-zero-words-requires : tie.Need-zero-words-requires
-zero-words-requires c κs = search needs
+clear-words-requires : tie.Need-clear-words-requires
+clear-words-requires c κs = search needs
 
-zero-words-requires-2 : tie.Need-zero-words-requires-2
-zero-words-requires-2 c κs = search needs
+clear-words-requires-2 : tie.Need-clear-words-requires-2
+clear-words-requires-2 c κs = search needs
 
-zero-flags-requires : tie.Need-zero-flags-requires
-zero-flags-requires c κs = search needs
+clear-bytes-requires : tie.Need-clear-bytes-requires
+clear-bytes-requires c κs = search needs
 
 same-length : tie.Need-same-length
 same-length c = search needs
@@ -44,7 +44,7 @@ returns-2 : tie.Need-returns-2
 returns-2 c =
     open-fresh _ _ _ _ _ _ _ _ _ _ _ _ (sym (c .before .before .before .before .before .before .before .before .before .before .before .before .before .before .open-gate .ensures) ∙ c .before .before .before .before .before .before .before .before .before .before .before .before .enum-told .given .1)
     (log-computed _ _ (omega arith) (c .before .before .before .before .before .before .before .before .before .before .before .ceil-log2 .ensures)) (c .before .before .before .before .before .before .before .before .before .before .max-insertions .ensures)
-    (c .before .before .before .before .before .before .before .before .zero-words .ensures) (c .before .before .before .before .before .before .zero-words2 .ensures) (c .before .before .zero-flags .ensures)
+    (c .before .before .before .before .before .before .before .before .clear-words .ensures) (c .before .before .before .before .before .before .clear-words2 .ensures) (c .before .before .clear-bytes .ensures)
 
 pub open-spec : {M : Type 1} → statement M
 open-spec =
@@ -56,9 +56,9 @@ open-spec =
     enum-told
     ceil-log2-requires
     max-insertions-requires
-    zero-words-requires
-    zero-words-requires-2
-    zero-flags-requires
+    clear-words-requires
+    clear-words-requires-2
+    clear-bytes-requires
     same-length
     same-length-2
     returns-2)

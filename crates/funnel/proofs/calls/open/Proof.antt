@@ -26,8 +26,8 @@ enum-known-plan c = search needs
 clear-words-requires : tie.Need-clear-words-requires
 clear-words-requires c κs = search needs
 
-clear-flags-requires : tie.Need-clear-flags-requires
-clear-flags-requires c κs = search needs
+clear-bytes-requires : tie.Need-clear-bytes-requires
+clear-bytes-requires c κs = search needs
 
 returns : tie.Need-returns
 returns c = opens-refused _ _ _ _ _ _ _ _ (c .before .before .before .open-gate .ensures) _ (c .before .g .given .1)
@@ -42,7 +42,7 @@ same-length-2 : tie.Need-same-length-2
 same-length-2 c = search needs
 
 returns-3 : tie.Need-returns-3
-returns-3 c = opens-table _ _ _ _ _ _ _ _ (c .before .before .before .before .before .before .before .before .before .before .before .before .before .before .before .open-gate .ensures) (c .before .before .before .before .before .before .before .before .before .before .before .before .before .enum-told .given .1) _ _ (c .before .before .before .before .before .before .before .before .before .before .before .funnel-plan .ensures) _ _ _ (c .before .before .before .before .before .before .before .before .before .plan .given .1) (c .before .before .before .before .before .before .clear-words .ensures) (c .before .before .clear-flags .ensures)
+returns-3 c = opens-table _ _ _ _ _ _ _ _ (c .before .before .before .before .before .before .before .before .before .before .before .before .before .before .before .open-gate .ensures) (c .before .before .before .before .before .before .before .before .before .before .before .before .before .enum-told .given .1) _ _ (c .before .before .before .before .before .before .before .before .before .before .before .funnel-plan .ensures) _ _ _ (c .before .before .before .before .before .before .before .before .before .plan .given .1) (c .before .before .before .before .before .before .clear-words .ensures) (c .before .before .clear-bytes .ensures)
 
 pub open-spec : {M : Type 1} → statement M
 open-spec =
@@ -55,7 +55,7 @@ open-spec =
     enum-known-g-2
     enum-known-plan
     clear-words-requires
-    clear-flags-requires
+    clear-bytes-requires
     returns
     returns-2
     same-length

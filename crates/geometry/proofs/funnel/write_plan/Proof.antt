@@ -28,8 +28,8 @@ sub-t c = omega (arith, length-facts _ _ _ (c .before .pre .2 .holds) .main)
 div-t : tie.Need-div-t
 div-t c = search needs
 
-clear-requires : tie.Need-clear-requires
-clear-requires c κs = search needs
+clear-words-requires : tie.Need-clear-words-requires
+clear-words-requires c κs = search needs
 
 fill-counts-requires : tie.Need-fill-counts-requires
 fill-counts-requires c κs =
@@ -64,7 +64,7 @@ returns c =
       exponent = s .pre .1;
       numbers = record { is-maximum = c .before .max-insertions .ensures; is-alpha = refl; is-beta = refl; is-loglog = g; is-width = ap (λ (x : ℕ). 2 * x) g; is-primary = refl; is-fallback = refl };
       special = record { largest = s .pre .2; is-main = refl; is-half = ap (λ (x : ℕ). s .args .s / 2 / (2 * x)) g };
-      levels = filled-counts _ _ (s .args .counts .now) _ _ (omega arith) (c .before .before .before .before .clear .ensures) (c .before .before .fill-counts .ensures);
+      levels = filled-counts _ _ (s .args .counts .now) _ _ (omega arith) (c .before .before .before .before .clear-words .ensures) (c .before .before .fill-counts .ensures);
     }
 
 pub write-plan-spec : {M : Type 1} → statement M
@@ -77,7 +77,7 @@ write-plan-spec =
     base-two-loglog-ceiling-requires
     sub-t
     div-t
-    clear-requires
+    clear-words-requires
     fill-counts-requires
     max-insertions-requires
     mul-t17

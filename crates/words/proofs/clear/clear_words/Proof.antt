@@ -1,25 +1,28 @@
--- `funnel::calls::clear_flags` meets its contract. The invariant: zeros in front, and behind them the old entries. Assumes nothing.
+-- `words::clear::clear_words` meets its contract. The invariant: zeros in front, and behind them the old entries. Assumes nothing.
 use Prim.Native.Nat.{ℕ, _-_, _≤_}
 use mathlib.Core.Path.{_≡_, refl, ap, _∙_}
 use mathlib.Core.List.{List, _++_}
 use native.Mathlib.Omega.{arith}
 use lib.ListN.{length, drop, set, replicate, length-set}
 use borrow.Author.Fill.{fill-more}
-use Rattle.geometry.specs.ZeroLaws.{cleared}
-use Rattle.funnel.proofs.calls.clear_flags.Statement.{statement}
-use Rattle.funnel.proofs.calls.clear_flags.Tie as tie
+use Rattle.words.specs.ClearLaws.{cleared}
+use Rattle.words.proofs.clear.clear_words.Statement.{statement}
+use Rattle.words.proofs.clear.clear_words.Tie as tie
 
 abbrev Inv-loop : tie.InvT-loop
-Inv-loop flags₀ i₀ flags i = (i ≤ length flags₀) × (length flags ≡ length flags₀) × (flags ≡ replicate i 0 ++ drop i flags₀)
+Inv-loop words₀ i₀ words i = (i ≤ length words₀) × (length words ≡ length words₀) × (words ≡ replicate i 0 ++ drop i words₀)
 
 abbrev μ-loop : tie.MeasureT-loop
-μ-loop flags₀ i₀ flags i = length flags - i
+μ-loop words₀ i₀ words i = length words - i
 
 loop-holds : tie.Need-loop-holds Inv-loop μ-loop
 loop-holds c = (omega arith, refl, refl)
 
-slice-write-flags : tie.Need-slice-write-flags Inv-loop μ-loop
-slice-write-flags c = omega arith
+mul-words : tie.Need-mul-words Inv-loop μ-loop
+mul-words c = omega arith
+
+slice-write-words : tie.Need-slice-write-words Inv-loop μ-loop
+slice-write-words c = omega arith
 
 add-i : tie.Need-add-i Inv-loop μ-loop
 add-i c = omega arith
@@ -30,7 +33,7 @@ loop-less c = simp length-set (omega arith)
 loop-again : tie.Need-loop-again Inv-loop μ-loop
 loop-again c =
     let v = c .before .loop .inv in
-    (omega arith, simp length-set (v .1), ap (λ (l : List ℕ). set l (c .before .loop .i) 0) (v .2) ∙ fill-more (c .before .loop .i) 0 (c .before .before .args .flags .now) (omega arith))
+    (omega arith, simp length-set (v .1), ap (λ (l : List ℕ). set l (c .before .loop .i) 0) (v .2) ∙ fill-more (c .before .loop .i) 0 (c .before .before .args .words .now) (omega arith))
 
 same-length : tie.Need-same-length Inv-loop μ-loop
 same-length c = c .before .loop .inv .1
@@ -38,14 +41,15 @@ same-length c = c .before .loop .inv .1
 returns : tie.Need-returns Inv-loop μ-loop
 returns c = c .before .loop .inv .2 ∙ cleared _ _ (omega arith) (c .before .loop .inv .0)
 
-pub clear-flags-spec : {M : Type 1} → statement M
-clear-flags-spec =
+pub clear-words-spec : {M : Type 1} → statement M
+clear-words-spec =
     tie.close
     (tie.spec
     Inv-loop
     μ-loop
     loop-holds
-    slice-write-flags
+    mul-words
+    slice-write-words
     add-i
     loop-less
     loop-again

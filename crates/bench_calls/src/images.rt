@@ -1,0 +1,64 @@
+// Images of funnel tables and their check.
+use crate::funnels::table_of;
+use audit::check::Checked;
+use audit::check::check;
+use image::calls::Loaded;
+use image::calls::load_image;
+use image::calls::write_image;
+use image::writer::Written;
+
+// How many members the check placed where it accepts; 0 where it does not.
+#[no_mangle]
+pub extern "C" fn bench_check(
+    state: &[u64; 16],
+    counts: &[u64; 118],
+    words: &[u64],
+    flags: &[u8],
+    marks: &mut [u8],
+    order: &mut [u64],
+) -> u64 {
+    match check(table_of(state), counts, words, flags, marks, order) {
+        Checked::Accepted { placed } => placed,
+        Checked::Disorder { placed: _, slot: _ } => 0,
+        Checked::Dirty { slot: _ } => 0,
+        Checked::Gate(_) => 0,
+    }
+}
+
+// The length of the image, 0 where it was not written.
+#[no_mangle]
+pub extern "C" fn bench_write_image(
+    state: &[u64; 16],
+    counts: &[u64; 118],
+    words: &[u64],
+    flags: &[u8],
+    label: &[u8],
+    out: &mut [u8],
+) -> u64 {
+    match write_image(table_of(state), counts, words, flags, label, out) {
+        Written::Done { len } => len,
+        Written::Room => 0,
+        Written::Dirty { slot: _ } => 0,
+        Written::Gate(_) => 0,
+    }
+}
+
+#[no_mangle]
+pub extern "C" fn bench_load_image(
+    state: &[u64; 16],
+    counts: &[u64; 118],
+    words: &mut [u64],
+    flags: &mut [u8],
+    image: &[u8],
+) -> bool {
+    match load_image(table_of(state), counts, words, flags, image) {
+        Loaded::Done {
+            table: _,
+            label_at: _,
+            label_len: _,
+        } => true,
+        Loaded::Foreign => false,
+        Loaded::Image { place: _ } => false,
+        Loaded::Gate(_) => false,
+    }
+}
