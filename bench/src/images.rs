@@ -1,6 +1,8 @@
 //! The check of an honest full table beside filling it with this library's own `place_all`, and writing and loading an image
 //! beside a copy of its bytes. The second column is that other work, not the Rust's: it has no images.
 
+use std::hint::black_box;
+
 use crate::calls::{self, Funnel};
 use crate::funnels::{CAP, SEED, identity};
 use crate::measure::Table;
@@ -43,11 +45,13 @@ fn copies(table: &mut Table, n: u64, filled: &mut Funnel) {
     table.row(&format!("image: writing beside a copy, n {n}"), length, || {
         assert_eq!(filled.write_image(b"bench", &mut out) as usize, length);
     }, || {
-        copy.copy_from_slice(std::hint::black_box(&image));
+        copy.copy_from_slice(&image);
+        black_box(&mut copy);
     });
     table.row(&format!("image: loading beside a copy, n {n}"), length, || {
         assert!(filled.load_image(&image));
     }, || {
-        copy.copy_from_slice(std::hint::black_box(&image));
+        copy.copy_from_slice(&image);
+        black_box(&mut copy);
     });
 }

@@ -1,10 +1,14 @@
 //! Medians of times taken in turn, as a table.
 
-use std::time::Instant;
+use std::time::{Duration, Instant};
 
-/// How often each side of a row is timed: less often where one round is long by itself.
-fn rounds(operations: usize) -> usize {
-    if operations > 500_000 { 5 } else { 15 }
+/// How often each side of a row is timed: 15 times, or 5 where these take long already.
+const MOST_ROUNDS: usize = 15;
+const LEAST_ROUNDS: usize = 5;
+const LONG: Duration = Duration::from_secs(4);
+
+fn enough(rounds: usize, start: Instant) -> bool {
+    rounds >= MOST_ROUNDS || (rounds >= LEAST_ROUNDS && start.elapsed() > LONG)
 }
 
 pub struct Table {
@@ -36,7 +40,8 @@ impl Table {
         ours();
         theirs();
         let mut times = [Vec::new(), Vec::new()];
-        for _ in 0..rounds(operations) {
+        let start = Instant::now();
+        while !enough(times[0].len(), start) {
             times[0].push(time(&mut ours));
             times[1].push(time(&mut theirs));
         }
@@ -57,16 +62,19 @@ impl Table {
         mut theirs: impl FnMut(&mut B),
     ) {
         let mut times = [Vec::new(), Vec::new()];
-        for round in 0..=rounds(operations) {
+        let start = Instant::now();
+        let mut warm = false;
+        while !enough(times[0].len(), start) {
             ready_ours(our_state);
             ready_theirs(their_state);
             let mine = time(&mut || ours(our_state));
             let other = time(&mut || theirs(their_state));
-            // The first round only warms up.
-            if round > 0 {
+            if warm {
                 times[0].push(mine);
                 times[1].push(other);
             }
+            // The first round only warms up.
+            warm = true;
         }
         self.print(name, operations, times);
     }

@@ -69,8 +69,9 @@ pub extern "C" fn bench_elastic_insert(
 ) -> u64 {
     let step = insert(state_of(state), counts, words, flags, identity);
     let next = step.st;
+    let answer = step.answer;
     state[9] = next.count;
-    match step.answer {
+    match answer {
         InsertAnswer::Refused(_) => 0,
         InsertAnswer::Inserted(insertion) => insertion.phi,
     }
