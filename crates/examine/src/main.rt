@@ -30,6 +30,7 @@ mod verdict;
 
 use buffers::MOST_BYTES;
 use buffers::image_buffer;
+use funnel::calls::MOST_WORDS;
 use say::put_text;
 use table::examine;
 use table::refuse_length;
@@ -40,9 +41,6 @@ use text::out::put;
 
 // The word cap where none is given.
 const USUAL_CAP: u64 = 8;
-
-// "Funnel word cap 1 to 256"
-const MOST_CAP: u64 = 256;
 
 fn main() {
     let mut out = io::large_buffer();
@@ -58,19 +56,19 @@ fn report(out: &mut [u8]) {
 fn run(out: &mut [u8]) -> usize {
     let count = os::arg_count();
     if count < 2 {
-        return misuse(b"no image is named\n", out, 0);
+        return misuse(b"no image is named", out, 0);
     }
     if 3 < count {
-        return misuse(b"there are more than two arguments\n", out, 0);
+        return misuse(b"there are more than two arguments", out, 0);
     }
     let cap = word_cap(count);
     if cap == 0 {
-        return misuse(b"the word cap is not a number from 1 to 256\n", out, 0);
+        return misuse(b"the word cap is not a number from 1 to 256", out, 0);
     }
     let mut path = io::buffer();
     let length = os::arg(1, &mut path);
     if os::errno() != 0 {
-        return misuse(b"the name of the file is too long\n", out, 0);
+        return misuse(b"the name of the file is too long", out, 0);
     }
     examine_file(&path[..length], cap, out)
 }
@@ -79,7 +77,11 @@ fn run(out: &mut [u8]) -> usize {
 fn misuse(why: &[u8], out: &mut [u8], at: usize) -> usize {
     let mut to = put(out, at, b"misuse      ");
     to = put(out, to, why);
-    to = put(out, to, b"usage       examine IMAGE [WORDCAP]\n");
+    put_usage(out, to)
+}
+
+fn put_usage(out: &mut [u8], at: usize) -> usize {
+    let to = put(out, at, b"\nusage       examine IMAGE [WORDCAP]\n");
     put(
         out,
         to,
@@ -104,7 +106,7 @@ fn parse_cap(text: &[u8]) -> u64 {
     let OneWord::Value(cap) = decimal(text, 0, text.len()) else {
         return 0;
     };
-    if MOST_CAP < cap {
+    if MOST_WORDS < cap {
         return 0;
     }
     cap
@@ -125,7 +127,8 @@ fn unreadable(path: &[u8], out: &mut [u8]) -> usize {
     os::fail(path);
     let mut to = put(out, 0, b"misuse      the file \"");
     to = put_text(path, out, to);
-    put(out, to, b"\" cannot be read\n")
+    to = put(out, to, b"\" cannot be read");
+    put_usage(out, to)
 }
 
 fn examine_open(path: &[u8], fd: i32, cap: u64, out: &mut [u8]) -> usize {

@@ -1,5 +1,5 @@
 // What the lines are made of: refusals by name and number, text with escapes, identities, shares.
-ghost use Prim.Native.Nat.{_≤_};
+use crate::buffers::MOST_SLOTS;
 use refusal::Gate;
 use refusal::Name;
 use text::out::put;
@@ -122,7 +122,7 @@ fn share_of(part: u64, whole: u64) -> u64 {
     if whole == 0 {
         return 0;
     }
-    if 65536 < part {
+    if MOST_SLOTS < part {
         return 10000;
     }
     part * 10000 / whole

@@ -6,7 +6,6 @@ use crate::header::Header;
 use crate::header::read_header;
 use crate::say::put_gate;
 use crate::say::put_hex_byte;
-use crate::say::put_name;
 use crate::say::put_refused;
 use crate::summary::put_given;
 use crate::summary::put_label;
