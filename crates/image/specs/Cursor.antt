@@ -22,6 +22,10 @@ cursor low at n e seed la ll count floor =
 abbrev pub cursorOf : Seen → ℕ → ℕ → Cursor
 cursorOf s low at = cursor low at (s .n) (s .e) (s .seed) (s .labelAt) (s .labelLen) (length (s .entries)) (floorAfter 0 (s .entries))
 
+-- what a cursor past the last field says
+abbrev pub headIn : Cursor → Head
+headIn c = record { n = c .n; e = c .e; seed = c .seed; «label_at» = c .«label_at»; «label_len» = c .«label_len»; count = c .count }
+
 -- whether the slots rise from `floor` on, and the next floor
 unfoldable pub riseOf : ℕ → ℕ → List Entry → Content
 riseOf n floor es = pick (rising n floor es) (Right (floorAfter floor es)) Off

@@ -5,7 +5,7 @@ ghost use Prim.Native.Nat.{_+_, _*_, _/_, _<_, _≤_, _^_};
 ghost use lib.ListN.{length};
 ghost use Rattle.image.specs.Format.{entrySize};
 ghost use Rattle.image.specs.Reading.{rightLength, entriesAt, readOf};
-ghost use Rattle.image.specs.Cursor.{riseOf, contentOf, tookOf, outcomeOf};
+ghost use Rattle.image.specs.Cursor.{cursor, headIn, riseOf, contentOf, tookOf, outcomeOf};
 use crate::field::ENTRY_SIZE;
 use crate::field::Framed;
 use crate::field::frame;
@@ -52,17 +52,7 @@ pub enum Content {
 pub fn read(image: &[u8]) -> Outcome
     ensures { λ r. ⌜ r ≡ outcomeOf (readOf (now (image .entry))) ⌝ }
 {
-    let mut c = Cursor {
-        low: 1,
-        at: 0,
-        n: 0,
-        e: 0,
-        seed: 0,
-        label_at: 0,
-        label_len: 0,
-        count: 0,
-        floor: 0,
-    };
+    let mut c = first_cursor();
     loop {
         let low = c.low;
         let at = c.at;
@@ -82,22 +72,45 @@ pub fn read(image: &[u8]) -> Outcome
                             if next < image.len() {
                                 return Outcome::Bad { place: next };
                             }
-                            return Outcome::Good {
-                                head: Head {
-                                    n: c.n,
-                                    e: c.e,
-                                    seed: c.seed,
-                                    label_at: c.label_at,
-                                    label_len: c.label_len,
-                                    count: c.count,
-                                },
-                            };
+                            let head = head_of(c);
+                            return Outcome::Good { head };
                         }
                         c = took(image, c, tag, body, len, floor);
                     }
                 }
             }
         }
+    }
+}
+
+// Before the first field.
+fn first_cursor() -> Cursor
+    ensures { λ r. ⌜ r ≡ cursor 1 0 0 0 0 0 0 0 0 ⌝ }
+{
+    Cursor {
+        low: 1,
+        at: 0,
+        n: 0,
+        e: 0,
+        seed: 0,
+        label_at: 0,
+        label_len: 0,
+        count: 0,
+        floor: 0,
+    }
+}
+
+// What was seen, past the last field.
+fn head_of(c: Cursor) -> Head
+    ensures { λ r. ⌜ r ≡ headIn c ⌝ }
+{
+    Head {
+        n: c.n,
+        e: c.e,
+        seed: c.seed,
+        label_at: c.label_at,
+        label_len: c.label_len,
+        count: c.count,
     }
 }
 
