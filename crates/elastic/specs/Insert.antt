@@ -121,15 +121,19 @@ done answer st cs ws fs = record { answer = answer; st = st; counts = cs; words 
 abbrev pub counted : State → State
 counted st = record { n = st .n; e = st .e; seed = st .seed; limits = st .limits; plan = st .plan; count = st .count + 1 }
 
--- paper probes and levels count from 1
-abbrev pub insertionOf : (n : ℕ) → Case → (level slot : ℕ) → LogicalProbe → Insertion
-insertionOf n case level slot probe =
+-- a slot of a level that starts at `offset`; paper probes count from 1
+abbrev pub takenAt : Case → (level slot offset : ℕ) → LogicalProbe → (position : ℕ) → Insertion
+takenAt case level slot offset probe position =
     record {
       case = case;
-      location = record { level = level; «slot_in_level» = record { 0 = slot - offsetAt n level }; «global_slot» = record { 0 = slot } };
+      location = record { level = level; «slot_in_level» = record { 0 = slot - offset }; «global_slot» = record { 0 = slot } };
       «paper_probe» = record { 0 = probe .0 + 1 };
-      phi = phi (level + 1) (probe .0 + 1);
+      phi = position;
     }
+
+-- levels count from 1 in phi
+abbrev pub insertionOf : (n : ℕ) → Case → (level slot : ℕ) → LogicalProbe → Insertion
+insertionOf n case level slot probe = takenAt case level slot (offsetAt n level) probe (phi (level + 1) (probe .0 + 1))
 
 -- "then 19. POSITION: chosen phi above the position cap"; "an insertion writes 1"
 unfoldable pub placeBy : State → List ℕ → List ℕ → List ℕ → (id : ℕ) → Chosen → Done

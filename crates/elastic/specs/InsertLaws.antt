@@ -44,7 +44,7 @@ use Rattle.elastic.specs.declared.insert.Chosen.the-variants as chosen
 use Rattle.elastic.specs.State.{gateOf, LimitsFacts, Valid, Searching, Pairing, Affordable}
 use Rattle.elastic.specs.Reading.{seekOf, firstOf, Probed, Seekable}
 use Rattle.elastic.specs.ReadingLaws.{probed-few, probed-length, probed-within, Vacancy, seek-vacant, IsFirst, first-is}
-use Rattle.elastic.specs.Insert.{uniformBy, uniformOf, budgetedBy, budgetedOf, freeAt, currentLow, nextLow, pairBy, pairOf, stepsOf, chooseBy, chooseOf, Done, done, counted, insertionOf, placeBy, insertBy, insertOf}
+use Rattle.elastic.specs.Insert.{uniformBy, uniformOf, budgetedBy, budgetedOf, freeAt, currentLow, nextLow, pairBy, pairOf, stepsOf, chooseBy, chooseOf, Done, done, counted, takenAt, insertionOf, placeBy, insertBy, insertOf}
 
 -- ---- what is asked of the searches
 
@@ -350,12 +350,7 @@ module _ (st : State) (cs ws fs : List ℕ) (id : ℕ) (x : Chosen) (e : x ≡ c
     place-position l = sym (rw (← e, h, ← is, lt-ltb (st .limits .«hit_query_position_cap») p l))
 
     pub place-inserted : (o : ℕ) → p ≤ st .limits .«hit_query_position_cap» → o ≡ offsetAt (st .n) level
-        → done (answer.Inserted (record {
-          case = case;
-          location = record { level = level; «slot_in_level» = record { 0 = slot - o }; «global_slot» = record { 0 = slot } };
-          «paper_probe» = record { 0 = probe .0 + 1 };
-          phi = p;
-        })) (counted st) (set cs level (getD cs level 0 + 1)) (set ws slot id) (set fs slot 1)
+        → done (answer.Inserted (takenAt case level slot o probe p)) (counted st) (set cs level (getD cs level 0 + 1)) (set ws slot id) (set fs slot 1)
         ≡ placeBy st cs ws fs id (chooseOf st cs ws fs id)
     unfolding placeBy
     place-inserted o l d = sym (rw (← e, h, ← is, le-ltb (st .limits .«hit_query_position_cap») p l, ← d))

@@ -6,7 +6,7 @@ ghost use lib.ListN.{length, getD, set};
 ghost use Rattle.probe.specs.Phi.{phi};
 ghost use Rattle.elastic.specs.State.{Valid, Searching, Pairing, Affordable};
 ghost use Rattle.elastic.specs.declared.insert.Case.the-variants.{Case1};
-ghost use Rattle.elastic.specs.Insert.{done, insertOf, placeBy, chooseOf, stepsOf, pairOf, uniformOf, budgetedOf};
+ghost use Rattle.elastic.specs.Insert.{done, takenAt, insertOf, placeBy, chooseOf, stepsOf, pairOf, uniformOf, budgetedOf};
 ghost use Rattle.geometry.specs.Elastic.{levelsOf, lengthAt};
 ghost use Rattle.probe.specs.Budget.{probesOf};
 use crate::route::Located;
@@ -171,22 +171,37 @@ pub fn place(
             flags[slot as usize] = 1;
             let mut next = st;
             next.count = st.count + 1;
-            let location = Location {
-                level,
-                slot_in_level: LevelSlot(slot - offset),
-                global_slot: GlobalSlot(slot),
-            };
-            let insertion = Insertion {
-                case,
-                location,
-                paper_probe: PaperProbe(probe.0 + 1),
-                phi: position,
-            };
+            let insertion = insertion_of(case, level, slot, offset, probe, position);
             return Inserted {
                 answer: InsertAnswer::Inserted(insertion),
                 st: next,
             };
         }
+    }
+}
+
+// What is answered of a slot that was taken, in a level that starts at `offset`.
+fn insertion_of(
+    case: Case,
+    level: u64,
+    slot: u64,
+    offset: u64,
+    probe: LogicalProbe,
+    position: u64,
+) -> Insertion
+    requires { ⌜ (offset ≤ slot) × (probe .0 < 8192) ⌝ }
+    ensures { λ r. ⌜ r ≡ takenAt case level slot offset probe position ⌝ }
+{
+    let location = Location {
+        level,
+        slot_in_level: LevelSlot(slot - offset),
+        global_slot: GlobalSlot(slot),
+    };
+    Insertion {
+        case,
+        location,
+        paper_probe: PaperProbe(probe.0 + 1),
+        phi: position,
     }
 }
 

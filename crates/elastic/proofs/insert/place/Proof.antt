@@ -72,15 +72,12 @@ slice-write-flags c = let t = choose-taken _ _ _ _ (c .before .before .before .b
 add-next : tie.Need-add-next
 add-next c = search needs
 
-sub-t32 : tie.Need-sub-t32
-sub-t32 c =
+insertion-of-requires : tie.Need-insertion-of-requires
+insertion-of-requires c κs =
     let v = c .before .before .before .before .before .before .before .before .before .before .before .before .before .before .before .before .pre in
     let t = choose-taken _ _ _ _ (c .before .before .before .before .before .before .before .before .before .before .before .before .before .before .before .before .pre) _ _ _ _ _ (sym (c .before .before .before .before .before .before .before .before .before .before .choose .ensures) ∙ c .before .before .before .before .before .before .before .before .case .given .1) in
     let o = probed-offset (searching-probed (valid-searching v _ (t .has)) _ refl) _ (c .before .before .level-offset .ensures) in
-    omega (arith, o, t .from)
-
-add-t32 : tie.Need-add-t32
-add-t32 c = let t = choose-taken _ _ _ _ (c .before .before .before .before .before .before .before .before .before .before .before .before .before .before .before .before .before .pre) _ _ _ _ _ (sym (c .before .before .before .before .before .before .before .before .before .before .before .choose .ensures) ∙ c .before .before .before .before .before .before .before .before .before .case .given .1) in omega (arith, t .in-time)
+    (omega (arith, o, t .from), t .in-time)
 
 same-length-5 : tie.Need-same-length-5
 same-length-5 c = search needs
@@ -92,7 +89,7 @@ returns-3 : tie.Need-returns-3
 returns-3 c =
     let v = c .before .before .before .before .before .before .before .before .before .before .before .before .before .before .before .before .before .pre in
     let t = choose-taken _ _ _ _ (c .before .before .before .before .before .before .before .before .before .before .before .before .before .before .before .before .before .pre) _ _ _ _ _ (sym (c .before .before .before .before .before .before .before .before .before .before .before .choose .ensures) ∙ c .before .before .before .before .before .before .before .before .before .case .given .1) in
-    place-inserted _ _ _ _ _ _ (c .before .before .before .before .before .before .before .before .before .before .before .choose .ensures) _ _ _ _ _ (c .before .before .before .before .before .before .before .before .before .case .given .1) (c .before .before .before .before .before .before .position-of .ensures) _ (c .before .before .before .before .if1 .left) (probed-offset (searching-probed (valid-searching v _ (t .has)) _ refl) _ (c .before .before .before .level-offset .ensures))
+    rw (c .insertion-of .ensures) (place-inserted _ _ _ _ _ _ (c .before .before .before .before .before .before .before .before .before .before .before .choose .ensures) _ _ _ _ _ (c .before .before .before .before .before .before .before .before .before .case .given .1) (c .before .before .before .before .before .before .position-of .ensures) _ (c .before .before .before .before .if1 .left) (probed-offset (searching-probed (valid-searching v _ (t .has)) _ refl) _ (c .before .before .before .level-offset .ensures)))
 
 pub place-spec : {M : Type 1} → statement M
 place-spec =
@@ -118,8 +115,7 @@ place-spec =
     slice-write-words
     slice-write-flags
     add-next
-    sub-t32
-    add-t32
+    insertion-of-requires
     same-length-5
     same-length-6
     returns-3)
