@@ -1,4 +1,6 @@
-//! Funnel tables: filling to the maximum, hits and misses at the maximum, and one public insertion with its gate.
+//! Funnel tables: filling to the maximum, hits and misses at the maximum, and one public insertion with its gate. Filling and
+//! hits go through `place_all`, the call for many identities. It refuses a miss at the maximum, so misses go through the
+//! search; and so do the same hits once more.
 
 use core::num::NonZeroU32;
 use std::hint::black_box;
@@ -23,6 +25,17 @@ pub fn identity(k: u64) -> u64 {
 fn rust_table(n: u64, e: u32) -> ScalarFunnel<FunnelPrf> {
     let config = PaperConfig::new(n as usize, e).unwrap();
     ScalarFunnel::new(config, FunnelPrf::new(SEED), NonZeroU32::new(CAP as u32).unwrap())
+}
+
+/// The Rust's searches for identities that are there.
+fn search_members(table: &ScalarFunnel<FunnelPrf>, members: &[u64]) {
+    let mut sum = 0_u128;
+    for &id in members {
+        let (found, probes) = table.search(id).unwrap();
+        assert!(matches!(found, ScalarFunnelSearch::Hit(_)));
+        sum += probes;
+    }
+    black_box(sum);
 }
 
 pub fn rows(table: &mut Table) {
@@ -53,17 +66,14 @@ pub fn rows(table: &mut Table) {
         for (slot, &id) in slots.iter().zip(&members) {
             assert_eq!(theirs.slots()[*slot as usize], Some(id));
         }
+        let mut again = vec![0; members.len()];
         table.row(&name("hits at the maximum"), members.len(), || {
+            assert!(ours.place_all(&members, &mut again));
+        }, || search_members(&theirs, &members));
+        assert_eq!(again, slots);
+        table.row(&name("the same hits by search"), members.len(), || {
             black_box(ours.search_all(&members));
-        }, || {
-            let mut sum = 0_u128;
-            for &id in &members {
-                let (found, probes) = theirs.search(id).unwrap();
-                assert!(matches!(found, ScalarFunnelSearch::Hit(_)));
-                sum += probes;
-            }
-            black_box(sum);
-        });
+        }, || search_members(&theirs, &members));
         table.row(&name("misses at the maximum"), absent.len(), || {
             black_box(ours.search_all(&absent));
         }, || {

@@ -1,6 +1,7 @@
 -- Insertion into a funnel table: the answer, the table and both buffers after it; and the placement of many identities, one after
 -- the other. Assumes nothing.
 use mathlib.Core.List.{List, [], _∷_}
+use mathlib.Core.Path.{_≡_}
 use Prim.Native.Nat.{ℕ, _+_}
 use lib.ListN.{set}
 use lib.Dec.{leb}
@@ -13,6 +14,8 @@ use Rattle.funnel.specs.declared.table.Insertion.{Insertion}
 use Rattle.funnel.specs.declared.table.Insertion.the-variants as insertion
 use Rattle.funnel.specs.declared.table.Placement.{Placement}
 use Rattle.funnel.specs.declared.table.Placement.the-variants as placement
+use Rattle.funnel.specs.declared.table.Settled.{Settled}
+use Rattle.funnel.specs.declared.table.Settled.the-variants as settled
 use Rattle.funnel.specs.Path.{slotOf}
 use Rattle.funnel.specs.Search.{findOf}
 
@@ -57,6 +60,20 @@ insertBy table words flags identity (search.Vacant probes place) =
 
 unfoldable pub insertOf : FunnelTable → (counts words flags : List ℕ) (identity : ℕ) → Done
 insertOf table counts words flags identity = insertBy table words flags identity (findOf table counts words flags identity)
+
+-- the answer of an insertion as a placement tells it, of the identity at an index
+abbrev pub settledOf : Insertion → (index : ℕ) → Settled
+settledOf (insertion.Inserted probes place) index = settled.Put (slotOf place)
+settledOf (insertion.Duplicate probes place) index = settled.There (slotOf place)
+settledOf (insertion.Range refusal) index = settled.Refused (placement.Range index refusal)
+settledOf (insertion.Exhausted probes) index = settled.Refused (placement.Exhausted index probes)
+settledOf (insertion.Full probes) index = settled.Refused (placement.Full index probes)
+
+-- that an answer and both buffers are what the insertion of the identity at an index comes to
+pub record Settles (table : FunnelTable) (counts words flags : List ℕ) (identity index : ℕ) (answer : Settled) (wordsAfter flagsAfter : List ℕ) : Type 0 where
+  pub told : answer ≡ settledOf (insertOf table counts words flags identity .answer) index
+  pub words-are : wordsAfter ≡ insertOf table counts words flags identity .words
+  pub flags-are : flagsAfter ≡ insertOf table counts words flags identity .flags
 
 -- what a placement of many identities leaves: `slots` holds the slot of each, as far as it came
 pub record Placed : Type 0 where

@@ -17,5 +17,8 @@ pub mod PlanLaws
 pub mod ReadingLaws
 pub mod Search
 pub mod SearchLaws
+pub mod SettleLaws
 pub mod StageLaws
+pub mod Stop
+pub mod StopLaws
 pub mod Valid

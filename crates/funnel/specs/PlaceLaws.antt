@@ -7,17 +7,16 @@ use native.Mathlib.Numerals.{add-one}
 use native.Mathlib.Omega.{arith}
 use lib.ListN.{length, drop, getD, set, length-set}
 use lib.Seq.{drop-cons, drop-length}
-use Rattle.words.specs.declared.place.Place.{Place}
-use Rattle.refusal.specs.declared.RangeRefusal.{RangeRefusal}
 use Rattle.geometry.specs.FunnelLaws.{plan-facts}
 use Rattle.funnel.specs.declared.table.FunnelTable.{FunnelTable}
 use Rattle.funnel.specs.declared.table.Insertion.{Insertion}
-use Rattle.funnel.specs.declared.table.Insertion.the-variants as insertion
 use Rattle.funnel.specs.declared.table.Placement.{Placement}
 use Rattle.funnel.specs.declared.table.Placement.the-variants as placement
-use Rattle.funnel.specs.Path.{slotOf}
-use Rattle.funnel.specs.Insert.{Done, done, withCount, stepped, insertOf, Placed, placed, placeOn, placeFrom, placeAllOf}
-use Rattle.funnel.specs.InsertLaws.{Inserts, inserted-facts, insert-changes}
+use Rattle.funnel.specs.declared.table.Settled.{Settled}
+use Rattle.funnel.specs.declared.table.Settled.the-variants as settled
+use Rattle.funnel.specs.Insert.{Done, done, withCount, insertOf, Settles, Placed, placed, placeOn, placeFrom, placeAllOf}
+use Rattle.funnel.specs.InsertLaws.{inserted-facts, insert-changes}
+use Rattle.funnel.specs.SettleLaws.{put-inserted, put-on, there-on, refused-on, there-table, refused-table}
 use Rattle.funnel.specs.Valid.{Valid}
 
 -- the buffers keep their lengths
@@ -67,26 +66,30 @@ module _ (table : FunnelTable) (counts words₀ flags₀ identities slots₀ : L
       }
 
   module _ {words flags slots : List ℕ} {count i : ℕ} (p : Placing words flags slots count i) where
-    module _ (h : i < length identities) (r : Insertion) (w f : List ℕ)
-        (e : done r (stepped r (withCount table count)) w f ≡ insertOf (withCount table count) counts words flags (getD identities i 0)) where
+    module _ (h : i < length identities) (s : Settled) (w f : List ℕ) (e : Settles (withCount table count) counts words flags (getD identities i 0) i s w f) where
+      -- what the insertion leaves
+      abbrev left-by : Done
+      left-by = insertOf (withCount table count) counts words flags (getD identities i 0)
+
       place-step : placeAllOf table counts words₀ flags₀ identities slots₀
-          ≡ placeOn r (done r (stepped r (withCount table count)) w f) slots i (λ s. placeFrom (stepped r (withCount table count)) counts w f (drop (i + 1) identities) s (i + 1))
+          ≡ placeOn (left-by .answer) left-by slots i (λ s. placeFrom (left-by .table) counts (left-by .words) (left-by .flags) (drop (i + 1) identities) s (i + 1))
       unfolding placeFrom
-      place-step = p .left ∙ rw (drop-cons identities i 0 h, ← e, add-one i)
+      place-step = p .left ∙ rw (drop-cons identities i 0 h, add-one i)
+
+      still : Valid table counts w f
+      still = valid-after (p .valid) count (getD identities i 0) (left-by .answer) (left-by .table) w f (rw (e .words-are, e .flags-are))
 
       pub placing-lengths : (length w ≡ length words₀) × (length f ≡ length flags₀)
       placing-lengths =
-          let v = valid-after (p .valid) count (getD identities i 0) r _ w f e in
-          (v .words-length ∙ sym (p .valid .words-length) ∙ p .same-words, v .flags-length ∙ sym (p .valid .flags-length) ∙ p .same-flags)
+          (still .words-length ∙ sym (p .valid .words-length) ∙ p .same-words, still .flags-length ∙ sym (p .valid .flags-length) ∙ p .same-flags)
 
-      placing-next : (slot more : ℕ) → count ≤ more → more ≤ table .n
+      placing-next : (slot more : ℕ) → more ≤ table .n
           → placeAllOf table counts words₀ flags₀ identities slots₀ ≡ placeFrom (withCount table more) counts w f (drop (i + 1) identities) (set slots i slot) (i + 1)
           → Placing w f (set slots i slot) more (i + 1)
-      placing-next slot more c m q =
-          let v = valid-after (p .valid) count (getD identities i 0) r _ w f e in
+      placing-next slot more m q =
           record {
             left = q;
-            valid = v;
+            valid = still;
             most = m;
             within = omega arith;
             room = simp length-set (p .room);
@@ -95,29 +98,25 @@ module _ (table : FunnelTable) (counts words₀ flags₀ identities slots₀ : L
             same-slots = length-set slots i slot ∙ p .same-slots;
           }
 
-      pub placing-inserted : (k slot : ℕ) (at : Place) → r ≡ insertion.Inserted k at → slot ≡ slotOf at
-          → (count < table .n) × Placing w f (set slots i slot) (count + 1) (i + 1)
-      placing-inserted k slot at g s =
-          let a : insertOf (withCount table count) counts words flags (getD identities i 0) .answer ≡ insertion.Inserted k at = sym (ap (λ (d : Done). d .answer) e) ∙ g in
-          let l = inserted-facts (withCount table count) counts words flags (getD identities i 0) k at a .left in
+      pub placing-put : (slot : ℕ) → s ≡ settled.Put slot → (count < table .n) × Placing w f (set slots i slot) (count + 1) (i + 1)
+      placing-put slot g =
+          let a = put-inserted (left-by .answer) i slot (sym g ∙ e .told) in
+          let t = inserted-facts (withCount table count) counts words flags (getD identities i 0) (a .0) (a .1) (a .2) in
+          let l = t .left in
           let m = plan-facts (p .valid .planned) in
           let b : count < table .n = omega arith in
-          (b, placing-next slot (count + 1) (omega arith) (omega arith) (place-step ∙ rw (g, s)))
+          let c : left-by .table ≡ withCount table (count + 1) = ap (λ (d : Done). d .table) (t .result) in
+          (b, placing-next slot (count + 1) (omega arith) (place-step ∙ put-on left-by slots i _ (left-by .answer) slot (sym g ∙ e .told) ∙ rw (c, e .words-are, e .flags-are)))
 
-      pub placing-duplicate : (k slot : ℕ) (at : Place) → r ≡ insertion.Duplicate k at → slot ≡ slotOf at → Placing w f (set slots i slot) count (i + 1)
-      placing-duplicate k slot at g s = placing-next slot count (omega arith) (p .most) (place-step ∙ rw (g, s))
+      pub placing-there : (slot : ℕ) → s ≡ settled.There slot → Placing w f (set slots i slot) count (i + 1)
+      placing-there slot g =
+          let c = there-table (withCount table count) counts words flags (getD identities i 0) i slot (sym g ∙ e .told) in
+          placing-next slot count (p .most) (place-step ∙ there-on left-by slots i _ (left-by .answer) slot (sym g ∙ e .told) ∙ rw (c, e .words-are, e .flags-are))
 
-      pub placing-range : (refusal : RangeRefusal) → r ≡ insertion.Range refusal
-          → placed (placement.Range i refusal) (withCount table count) w f slots ≡ placeAllOf table counts words₀ flags₀ identities slots₀
-      placing-range refusal g = sym (place-step ∙ rw g)
-
-      pub placing-exhausted : (k : ℕ) → r ≡ insertion.Exhausted k
-          → placed (placement.Exhausted i k) (withCount table count) w f slots ≡ placeAllOf table counts words₀ flags₀ identities slots₀
-      placing-exhausted k g = sym (place-step ∙ rw g)
-
-      pub placing-full : (k : ℕ) → r ≡ insertion.Full k
-          → placed (placement.Full i k) (withCount table count) w f slots ≡ placeAllOf table counts words₀ flags₀ identities slots₀
-      placing-full k g = sym (place-step ∙ rw g)
+      pub placing-refused : (q : Placement) → s ≡ settled.Refused q → placed q (withCount table count) w f slots ≡ placeAllOf table counts words₀ flags₀ identities slots₀
+      placing-refused q g =
+          let c = refused-table (withCount table count) counts words flags (getD identities i 0) i q (sym g ∙ e .told) in
+          sym (place-step ∙ refused-on left-by slots i _ (left-by .answer) q (sym g ∙ e .told) ∙ rw (c, e .words-are, e .flags-are))
 
     pub placing-all : length identities ≤ i → placed placement.All (withCount table count) words flags slots ≡ placeAllOf table counts words₀ flags₀ identities slots₀
     unfolding placeFrom

@@ -14,7 +14,7 @@
 //
 //     table.rt      the state, and what the calls answer
 //     scan.rt       walks over slots, the only readers of the buffers
-//     search.rt     the stages of a path, and the search along all of it, in a valid table
+//     search.rt     the stages of a path, and the search along all of it, in a valid table; the levels alone, told by the slot
 //     insert.rt     insertion into a valid table
 //     place_all.rt  many insertions into a valid table
 //     calls.rt      the public calls: open, search, insert, place_all. Each tests the state, 1 to 7, and requires nothing

@@ -2,14 +2,17 @@
 ghost use mathlib.Core.Path.{_≡_};
 ghost use Prim.Native.Nat.{_≤_};
 ghost use lib.ListN.{length};
-ghost use Rattle.funnel.specs.Insert.{placed, withCount, placeAllOf};
+ghost use Rattle.funnel.specs.Insert.{withCount, settledOf, Settles, placed, placeAllOf};
 ghost use Rattle.funnel.specs.Valid.{Valid};
 use crate::insert::put;
 use crate::insert::slot_of;
+use crate::search::pass_levels;
 use crate::table::FunnelTable;
 use crate::table::Insertion;
 use crate::table::PlacedAll;
 use crate::table::Placement;
+use crate::table::Settled;
+use crate::table::Stop;
 
 // For each identity the slot where it is or was put, up to the first refusal. Slots past that are left as they were.
 pub fn place_all(
@@ -27,34 +30,19 @@ pub fn place_all(
     let mut i = 0;
     while i < identities.len() {
         let identity = identities[i];
-        match put(table, count, counts, words, flags, identity) {
-            Insertion::Inserted { probes: _, place } => {
-                slots[i] = slot_of(place);
+        match settle(table, count, counts, words, flags, identity, i as u64) {
+            Settled::Put { slot } => {
+                slots[i] = slot;
                 count += 1;
                 i += 1;
             }
-            Insertion::Duplicate { probes: _, place } => {
-                slots[i] = slot_of(place);
+            Settled::There { slot } => {
+                slots[i] = slot;
                 i += 1;
             }
-            Insertion::Range(refusal) => {
-                let index = i as u64;
+            Settled::Refused(answer) => {
                 return PlacedAll {
-                    answer: Placement::Range { index, refusal },
-                    table: with_count(table, count),
-                };
-            }
-            Insertion::Exhausted { probes } => {
-                let index = i as u64;
-                return PlacedAll {
-                    answer: Placement::Exhausted { index, probes },
-                    table: with_count(table, count),
-                };
-            }
-            Insertion::Full { probes } => {
-                let index = i as u64;
-                return PlacedAll {
-                    answer: Placement::Full { index, probes },
+                    answer,
                     table: with_count(table, count),
                 };
             }
@@ -63,6 +51,53 @@ pub fn place_all(
     PlacedAll {
         answer: Placement::All,
         table: with_count(table, count),
+    }
+}
+
+// The insertion of the identity at an index, as far as a placement tells it. Nearly every identity is settled by its slots in
+// the levels, and needs neither a place nor a count of probes; the others are inserted in full.
+fn settle(
+    table: FunnelTable,
+    count: u64,
+    counts: &[u64; 118],
+    words: &mut [u64],
+    flags: &mut [u8],
+    identity: u64,
+    index: u64,
+) -> Settled
+    requires { ⌜ Valid table (now counts) (now words) (now flags) × (count ≤ table .n) ⌝ }
+    ensures { λ r. ⌜ Settles (withCount table count) (now (counts .entry)) (now (words .entry)) (now (flags .entry)) identity index r (now (words .exit)) (now (flags .exit)) ⌝ }
+{
+    let maximum = table.plan.maximum;
+    match pass_levels(table, counts, words, flags, identity) {
+        Stop::Hit { slot } => Settled::There { slot },
+        Stop::Vacant { slot } => {
+            if maximum <= count {
+                return settled(put(table, count, counts, words, flags, identity), index);
+            }
+            let at = slot as usize;
+            words[at] = identity;
+            flags[at] = 1;
+            Settled::Put { slot }
+        }
+        Stop::Nowhere => settled(put(table, count, counts, words, flags, identity), index),
+    }
+}
+
+// An insertion's answer as a placement tells it.
+fn settled(answer: Insertion, index: u64) -> Settled
+    ensures { λ r. ⌜ r ≡ settledOf answer index ⌝ }
+{
+    match answer {
+        Insertion::Inserted { probes: _, place } => Settled::Put {
+            slot: slot_of(place),
+        },
+        Insertion::Duplicate { probes: _, place } => Settled::There {
+            slot: slot_of(place),
+        },
+        Insertion::Range(refusal) => Settled::Refused(Placement::Range { index, refusal }),
+        Insertion::Exhausted { probes } => Settled::Refused(Placement::Exhausted { index, probes }),
+        Insertion::Full { probes } => Settled::Refused(Placement::Full { index, probes }),
     }
 }
 

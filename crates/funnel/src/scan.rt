@@ -1,11 +1,13 @@
 // Walks over slots: the innermost loops of every search. Only these, and the writes of an insertion, touch the buffers.
 ghost use mathlib.Core.List.{[], _∷_};
 ghost use mathlib.Core.Path.{_≡_};
-ghost use Prim.Native.Nat.{_+_, _*_, _≤_, _<_, _^_};
+ghost use Prim.Native.Nat.{_+_, _*_, _%_, _≤_, _<_, _^_};
 ghost use lib.ListN.{length};
 ghost use Rattle.funnel.specs.Path.{slotOf, run, bucketFrom, pairsFrom};
 ghost use Rattle.funnel.specs.Search.{searchOf};
+ghost use Rattle.funnel.specs.Stop.{BucketStops};
 use crate::table::Search;
+use crate::table::Stop;
 use words::place::GlobalSlot;
 use words::place::Place;
 
@@ -52,6 +54,34 @@ pub fn scan(
         i += 1;
     }
     Search::Full { probes: probes + w }
+}
+
+// Where a bucket of w slots stops a search, for an even w: two slots a turn, no place and no count of probes.
+pub fn pass(words: &[u64], flags: &[u8], identity: u64, from: u64, w: u64) -> Stop
+    requires { ⌜ (from + w ≤ length (now words)) × (from + w ≤ length (now flags)) × (w % 2 ≡ 0) ⌝ }
+    ensures { λ r. ⌜ BucketStops (now (words .entry)) (now (flags .entry)) identity from w r ⌝ }
+{
+    let mut i = 0;
+    while i < w {
+        let slot = from + i;
+        let s = slot as usize;
+        if flags[s] == 0 {
+            return Stop::Vacant { slot };
+        }
+        if words[s] == identity {
+            return Stop::Hit { slot };
+        }
+        let next = slot + 1;
+        let t = next as usize;
+        if flags[t] == 0 {
+            return Stop::Vacant { slot: next };
+        }
+        if words[t] == identity {
+            return Stop::Hit { slot: next };
+        }
+        i += 2;
+    }
+    Stop::Nowhere
 }
 
 // The reading of one place, whose slot is `at`, with some probes made before.

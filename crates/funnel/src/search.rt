@@ -1,20 +1,24 @@
 // The search for an identity: the stages of its path, one function each.
 ghost use mathlib.Core.Path.{_≡_};
-ghost use Prim.Native.Nat.{_+_, _*_, _≤_, _<_, _^_};
-ghost use lib.ListN.{length};
+ghost use Prim.Native.Nat.{ℕ, _+_, _*_, _≤_, _<_, _^_};
+ghost use lib.ListN.{length, getD};
 ghost use Rattle.probe.specs.Counter.{levelOf, funnelCounterOf};
 ghost use Rattle.probe.specs.Range.{drawOf};
 ghost use Rattle.funnel.specs.Path.{levelsFrom, primaryFrom, fallbackOf};
 ghost use Rattle.funnel.specs.Search.{searchOf, findOf};
+ghost use Rattle.funnel.specs.Stop.{StopsAt, FirstAhead};
 ghost use Rattle.funnel.specs.Valid.{Valid, Keyed, SpecialRoom, Drawable, DrawnAhead};
+use crate::scan::pass;
 use crate::scan::read;
 use crate::scan::scan;
 use crate::scan::scan_pairs;
 use crate::table::FunnelTable;
 use crate::table::Search;
+use crate::table::Stop;
 use probe::counter::Domain;
 use probe::counter::funnel_base;
 use probe::range::Drawn;
+use probe::range::first_index;
 use probe::range::funnel_draw;
 use probe::word::FunnelKey;
 use probe::word::funnel_key;
@@ -87,6 +91,57 @@ fn search_levels(
         level += 1;
     }
     Search::Full { probes }
+}
+
+// The slot that the levels settle a search with. What first words do not settle is left to `find`.
+pub fn pass_levels(
+    table: FunnelTable,
+    counts: &[u64; 118],
+    words: &[u64],
+    flags: &[u8],
+    identity: u64,
+) -> Stop
+    requires { ⌜ Valid table (now counts) (now words) (now flags) ⌝ }
+    ensures { λ r. ⌜ StopsAt r (findOf table (now (counts .entry)) (now (words .entry)) (now (flags .entry)) identity) (Unit {0}) ⌝ }
+{
+    let key = funnel_key(table.seed, identity);
+    let alpha = table.plan.alpha;
+    let beta = table.plan.beta;
+    let mut level = 0;
+    let mut start = 0;
+    let mut bucket = first_bucket(key, counts, alpha, 0);
+    while level < alpha {
+        let count = counts[level as usize];
+        if count <= bucket {
+            return Stop::Nowhere;
+        }
+        // As in `search_levels`, the next level's bucket is drawn before this one is read.
+        let ahead = first_bucket(key, counts, table.plan.alpha, level + 1);
+        let from = start + bucket * beta;
+        let stop = pass(words, flags, identity, from, beta);
+        let Stop::Nowhere = stop else {
+            return stop;
+        };
+        bucket = ahead;
+        start += count * beta;
+        level += 1;
+    }
+    Stop::Nowhere
+}
+
+// The bucket of a level by its first word, where there is such a level.
+fn first_bucket(key: FunnelKey, counts: &[u64; 118], alpha: u64, level: u64) -> u64
+    requires { ⌜ (alpha ≤ 118) × ((k : ℕ) → k < alpha → 0 < getD (now counts) k 0) ⌝ }
+    ensures { λ r. ⌜ FirstAhead key (now (counts .entry)) alpha level r ⌝ }
+{
+    if alpha <= level {
+        return 0;
+    }
+    first_index(
+        key,
+        funnel_base(Domain::Ordinary { level }, 0),
+        counts[level as usize],
+    )
 }
 
 // The draw of a level's bucket, where there is such a level.

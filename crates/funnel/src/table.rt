@@ -22,6 +22,13 @@ pub enum Search {
     Range(RangeRefusal),
 }
 
+// Where a search stops, as far as slots go: at a slot that holds the identity, at a vacant one, or nowhere among those passed.
+pub enum Stop {
+    Hit { slot: u64 },
+    Vacant { slot: u64 },
+    Nowhere,
+}
+
 // What an insertion into a valid table is answered.
 pub enum Insertion {
     Inserted { probes: u64, place: Place },
@@ -43,6 +50,13 @@ pub enum Placement {
     Range { index: u64, refusal: RangeRefusal },
     Exhausted { index: u64, probes: u64 },
     Full { index: u64, probes: u64 },
+}
+
+// What the insertion of one identity is to a placement: its slot, where it was put or is already, or the answer that ends it.
+pub enum Settled {
+    Put { slot: u64 },
+    There { slot: u64 },
+    Refused(Placement),
 }
 
 // The answer of a placement and the table after it.

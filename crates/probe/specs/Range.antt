@@ -1,6 +1,7 @@
 -- Reduction of words to an index below a number of values. Assumes nothing.
 use mathlib.Core.List.{List, [], _∷_}
-use Prim.Native.Nat.{ℕ, zero, suc, _+_, _*_, _/_, _%_, _^_}
+use mathlib.Core.Path.{_≡_}
+use Prim.Native.Nat.{ℕ, zero, suc, _+_, _*_, _/_, _%_, _^_, _<_}
 use lib.Dec.{eqb, ltb, leb}
 use Rattle.refusal.specs.declared.Name.the-variants as name
 use Rattle.refusal.specs.Table.{Report, answered, refused}
@@ -34,6 +35,10 @@ reduceOf (word ∷ words) u used =
 -- an index below u from at most cap words, by the numbers that key them and the counter of the first
 unfoldable pub drawOf : (inner outer base u cap : ℕ) → Drawn
 drawOf inner outer base u cap = reduceOf (wordsAt inner outer base cap) u 0
+
+-- an index, where it is one below u, that the first word gives: whatever more words are allowed, they are not needed
+pub record FirstIndex (inner outer base u index : ℕ) : Type 0 where
+  pub first : index < u → (cap : ℕ) → 0 < cap → drawOf inner outer base u cap ≡ drawn.Index index 1
 
 -- the index of an identity in a level of u slots of an elastic table, at a probe
 unfoldable pub elasticDrawOf : (seed identity level probe u cap : ℕ) → Drawn

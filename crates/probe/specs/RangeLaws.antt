@@ -2,7 +2,7 @@
 use mathlib.Core.Bool.{Bool, true, false}
 use mathlib.Core.Path.{_≡_, refl, sym, ap, subst, _∙_}
 use Prim.Native.Nat.{ℕ, zero, suc, _+_, _-_, _*_, _/_, _%_, _^_, _≤_, _<_}
-use native.Mathlib.Nat.{mul-lt-mul-of-pos-right}
+use native.Mathlib.Nat.{mod-lt, mul-lt-mul-of-pos-right}
 use native.Mathlib.Omega.{arith}
 use lib.Dec.{leb}
 use lib.ListN.{length, getD}
@@ -12,7 +12,7 @@ use Rattle.words.specs.Pick.{pick}
 use Rattle.probe.specs.Counter.{elasticCounterOf, levelOf, funnelCounterOf}
 use Rattle.probe.specs.Word.{elasticKeyOf, funnelInOf, funnelOutOf, wordOf, elasticWordOf, funnelWordOf}
 use Rattle.probe.specs.WordLaws.{word-below}
-use Rattle.probe.specs.Range.{wordsAt, allRejected, reduceOf, drawOf, elasticDrawOf, funnelDrawOf, reducedOf, elasticReduceOf, funnelReduceOf}
+use Rattle.probe.specs.Range.{wordsAt, FirstIndex, allRejected, reduceOf, drawOf, elasticDrawOf, funnelDrawOf, reducedOf, elasticReduceOf, funnelReduceOf}
 use Rattle.probe.specs.declared.counter.Domain.{Domain}
 use Rattle.probe.specs.declared.range.Drawn.{Drawn}
 use Rattle.probe.specs.declared.range.Drawn.the-variants.{Index, Refused}
@@ -95,6 +95,17 @@ module _ (inner outer base u cap word low : ℕ) (t : Bool) (more : cap ≡ 0 �
   pub draw-others : (r : Drawn) → t ≡ false → r ≡ reduceOf (wordsAt inner outer (base + 1) (cap - 1)) u 1 → r ≡ drawOf inner outer base u cap
   unfolding drawOf
   draw-others r h e = e ∙ reduce-reject inner outer base u 0 cap word low t (omega arith) is half test h
+
+-- a first word whose low half is at least u is accepted without 2^64 mod u, and its high half is the index
+pub first-index : (inner outer base u word low high : ℕ) → 0 < u → word ≡ wordOf inner outer base → low ≡ word * u % 2 ^ 64 → u ≤ low → high ≡ word * u / 2 ^ 64
+    → FirstIndex inner outer base u high
+first-index inner outer base u word low high pos is half least e =
+    let m = mod-lt (2 ^ 64) {m = u} pos in
+    record { first = λ l cap some. sym (draw-first inner outer base u cap word low true (λ z. absurd (omega arith)) is half (sym (le-leb (2 ^ 64 % u) low (omega (arith, m)))) high refl e) }
+
+-- upper itself is no index
+pub first-none : (inner outer base u : ℕ) → FirstIndex inner outer base u u
+first-none inner outer base u = record { first = λ l cap some. absurd (omega (arith, l)) }
 
 -- ---- a loop over the words: what is left gives what the whole gives
 

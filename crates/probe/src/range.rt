@@ -2,7 +2,7 @@
 ghost use mathlib.Core.Path.{_≡_};
 ghost use Prim.Native.Nat.{_+_, _-_, _*_, _%_, _^_, _<_, _≤_};
 ghost use lib.Dec.{leb};
-ghost use Rattle.probe.specs.Range.{wordsAt, reduceOf, drawOf, reducedOf, elasticReduceOf, funnelReduceOf};
+ghost use Rattle.probe.specs.Range.{wordsAt, reduceOf, drawOf, FirstIndex, reducedOf, elasticReduceOf, funnelReduceOf};
 use crate::counter::Domain;
 use crate::counter::ELASTIC_LEVELS;
 use crate::counter::ELASTIC_PROBES;
@@ -122,6 +122,18 @@ pub fn funnel_draw(key: FunnelKey, base: u64, upper: u64, cap: u64) -> Drawn
     ensures { λ r. ⌜ r ≡ drawOf (key .inner) (key .outer) base upper cap ⌝ }
 {
     draw(key.inner, key.outer, base, upper, cap)
+}
+
+// The index that the first word gives where it is accepted at once, else upper. For loops that leave the rest to `funnel_draw`.
+pub fn first_index(key: FunnelKey, base: u64, upper: u64) -> u64
+    requires { ⌜ 0 < upper ⌝ }
+    ensures { λ r. ⌜ FirstIndex (key .inner) (key .outer) base upper r ⌝ }
+{
+    let word = keyed_word(key.inner, key.outer, base);
+    if multiply(word, upper) < upper {
+        return upper;
+    }
+    multiply_high(word, upper)
 }
 
 // The first word alone decides nearly always, so it stands before the loop.
