@@ -6,7 +6,7 @@ use Prim.Native.Nat.{ℕ, _-_, _*_, _^_, _≤_, _<_, min}
 use native.Mathlib.Nat.{sub-zero}
 use native.Mathlib.Omega.{arith}
 use lib.Dec.{leb}
-use lib.ListN.{replicate}
+use lib.ListN.{set, replicate}
 use borrow.Author.Tests.{ne-eqb}
 use Rattle.refusal.specs.Table.{refused, answered}
 use Rattle.refusal.specs.declared.Name.the-variants as name
@@ -29,6 +29,10 @@ use Rattle.elastic.specs.declared.state.Limits.{Limits}
 use Rattle.elastic.specs.State.{limitsFit, freshOf}
 use Rattle.elastic.specs.Insert.{insertOf, refusalReport, insertReport}
 use Rattle.elastic.specs.Query.{queryOf, queryReport}
+use Rattle.audit.specs.declared.check.Checked.{Checked}
+use Rattle.audit.specs.Check.{Ended, ended, checkOf, reportOf}
+use Rattle.cases.specs.OneBucket.{counts, table, zeros, Given, Ends}
+use Rattle.cases.specs.CheckLaws.{empty, only-second, twice}
 use Rattle.cases.specs.FirstInsertLaws.{slotOfTwo, first-refused, first-insert, first-query}
 
 pub data Letter : Type 0 where
@@ -41,6 +45,9 @@ pub data Letter : Type 0 where
   G : Letter
   H : Letter
   I : Letter
+  K : Letter
+  L : Letter
+  M : Letter
 
 -- ---- the table
 
@@ -88,6 +95,20 @@ Says I =
     → let d = insertOf (freshOf 2 e seed limits) (replicate 32 0) (replicate 2 0) (replicate 2 0) identity in
     (slot : ℕ) × (insertReport (d .answer) ≡ answered (0 ∷ 0 ∷ 0 ∷ 0 ∷ 0 ∷ 0 ∷ slot ∷ slot ∷ 1 ∷ 13 ∷ []))
     × (queryReport (queryOf (d .st) (d .counts) (d .words) (d .flags) identity) ≡ answered (1 ∷ slot ∷ 0 ∷ 1 ∷ 1 ∷ []))
+-- "There, only slot 1 occupied: DISORDER, placed 0, slot 1", whatever marks and order hold
+Says K =
+    (seed cap count identity : ℕ) (marks order : List ℕ) → Given cap count marks order
+    → Ends (checkOf (table seed cap count) counts (0 ∷ identity ∷ zeros 142) (0 ∷ 1 ∷ zeros 142) marks order)
+    (refused name.Disorder (0 ∷ 1 ∷ [])) (zeros 144) order
+-- "Equal identities in 0 and 1: placed 1, slot 1"
+Says L =
+    (seed cap count identity : ℕ) (marks order : List ℕ) → Given cap count marks order
+    → Ends (checkOf (table seed cap count) counts (identity ∷ identity ∷ zeros 142) (1 ∷ 1 ∷ zeros 142) marks order)
+    (refused name.Disorder (1 ∷ 1 ∷ [])) (1 ∷ zeros 143) (set order 0 0)
+-- "Empty: accepted, order empty"
+Says M =
+    (seed cap count : ℕ) (marks order : List ℕ) → Given cap count marks order
+    → Ends (checkOf (table seed cap count) counts (zeros 144) (zeros 144) marks order) (answered (0 ∷ [])) (zeros 144) order
 
 -- ---- the proof
 
@@ -95,6 +116,10 @@ Says I =
 either : {X : Type 0} (b : Bool) (x : X) → pick b x x ≡ x
 either true x = refl
 either false x = refl
+
+-- a check that is known, part by part
+ended-so : {e : Ended} {answer : Checked} {marks order : List ℕ} → e ≡ ended answer marks order → Ends e (reportOf answer) marks order
+ended-so q = (ap (λ (x : Ended). reportOf (x .answer)) q, ap (λ (x : Ended). x .marks) q, ap (λ (x : Ended). x .order) q)
 
 -- a level that is all free has no budget
 all-free : (e c : ℕ) → probesOf 4 4 e c ≡ 0
@@ -121,3 +146,6 @@ cases I = λ e seed limits identity some fit far. (
   rw (first-insert e seed limits some fit identity far, sub-zero (slotOfTwo (elasticKeyOf seed identity))),
   rw (first-insert e seed limits some fit identity far, first-query e seed limits some fit identity),
 )
+cases K = λ seed cap count identity marks order given. ended-so (only-second seed cap count marks order given identity)
+cases L = λ seed cap count identity marks order given. ended-so (twice seed cap count marks order given identity)
+cases M = λ seed cap count marks order given. ended-so (empty seed cap count marks order given)

@@ -39,6 +39,10 @@ counts = replicate 22 1 ++ replicate 96 0
 abbrev pub table : (seed cap count : ℕ) → FunnelTable
 table seed cap count = record { n = 144; e = 3; seed = seed; «word_cap» = cap; count = count; plan = plan }
 
+-- vacant slots: their words, or their flags
+abbrev pub zeros : ℕ → List ℕ
+zeros n = replicate n 0
+
 -- the place of an ordinary slot
 abbrev pub ordinary : ℕ → Place
 ordinary k = place.Ordinary (k / 6) 0 (k % 6) (record { 0 = k })
@@ -82,9 +86,6 @@ pub record Other (identities : List ℕ) (identity : ℕ) : Type 0 where
   pub none : (i : ℕ) → i < length identities → getD identities i 0 ≡ identity → ⊥
 
 -- some identities in slots 0, 1, .. in turn, and nothing else
-abbrev pub zeros : ℕ → List ℕ
-zeros n = replicate n 0
-
 abbrev pub held : (seed cap : ℕ) → List ℕ → State
 held seed cap identities =
     record {
@@ -108,6 +109,15 @@ pub record Fills (seed cap : ℕ) (identities : List ℕ) : Type 0 where
       → reportAt (callsOf (opened seed cap) identities) (getD identities i 0) ≡ refused name.Duplicate ((i + 1) ∷ placeValues (ordinary i))
 
 -- ---- cases K to M
+
+-- what the tests 6 and 7 ask of a check of this table, beside its plan and two buffers of 144
+pub record Given (cap count : ℕ) (marks order : List ℕ) : Type 0 where
+  -- "Funnel word cap 1 to 256"
+  pub cap-least : 1 ≤ cap
+  pub cap-most : cap ≤ 256
+  pub counted : count ≤ 144
+  pub marks-n : length marks ≡ 144
+  pub order-n : length order ≡ 144
 
 -- what a check reports, and what it leaves in marks and order
 abbrev pub Ends : Ended → Report → (marks order : List ℕ) → Type 0
