@@ -6,7 +6,7 @@ use Prim.Native.Nat.{ℕ, _-_, _*_, _^_, _≤_, _<_, min}
 use native.Mathlib.Nat.{sub-zero}
 use native.Mathlib.Omega.{arith}
 use lib.Dec.{leb}
-use lib.ListN.{set, replicate}
+use lib.ListN.{length, set, replicate}
 use borrow.Author.Tests.{ne-eqb}
 use Rattle.refusal.specs.Table.{refused, answered}
 use Rattle.refusal.specs.declared.Name.the-variants as name
@@ -29,9 +29,12 @@ use Rattle.elastic.specs.declared.state.Limits.{Limits}
 use Rattle.elastic.specs.State.{limitsFit, freshOf}
 use Rattle.elastic.specs.Insert.{insertOf, refusalReport, insertReport}
 use Rattle.elastic.specs.Query.{queryOf, queryReport}
+use Rattle.funnel.specs.declared.table.OpenAnswer.the-variants as opening
+use Rattle.funnel.specs.Calls.{Opens}
 use Rattle.audit.specs.declared.check.Checked.{Checked}
 use Rattle.audit.specs.Check.{Ended, ended, checkOf, reportOf}
-use Rattle.cases.specs.OneBucket.{counts, table, zeros, Given, Ends}
+use Rattle.cases.specs.OneBucket.{counts, table, zeros, Distinct, Fills, Given, Ends}
+use Rattle.cases.specs.FillLaws.{opens, fills}
 use Rattle.cases.specs.CheckLaws.{empty, only-second, twice}
 use Rattle.cases.specs.FirstInsertLaws.{slotOfTwo, first-refused, first-insert, first-query}
 
@@ -45,6 +48,7 @@ pub data Letter : Type 0 where
   G : Letter
   H : Letter
   I : Letter
+  J : Letter
   K : Letter
   L : Letter
   M : Letter
@@ -95,6 +99,13 @@ Says I =
     → let d = insertOf (freshOf 2 e seed limits) (replicate 32 0) (replicate 2 0) (replicate 2 0) identity in
     (slot : ℕ) × (insertReport (d .answer) ≡ answered (0 ∷ 0 ∷ 0 ∷ 0 ∷ 0 ∷ 0 ∷ slot ∷ slot ∷ 1 ∷ 13 ∷ []))
     × (queryReport (queryOf (d .st) (d .counts) (d .words) (d .flags) identity) ≡ answered (1 ∷ slot ∷ 0 ∷ 1 ∷ 1 ∷ []))
+-- "Funnel (144,3): every level one bucket, distinct identities fill slots 0 to 125 in turn with probes 1 to 126; the next is EXHAUSTED, a member
+-- DUPLICATE": the opening's answer, and then the insertions', for every seed and word cap
+Says J =
+    (seed cap : ℕ) → 1 ≤ cap → cap ≤ 256
+    → ((old words flags : List ℕ) → length words ≡ 144 → length flags ≡ 144
+    → Opens 144 3 seed cap old words flags (opening.Table (table seed cap 0)) counts (zeros 144) (zeros 144))
+    × ((identities : List ℕ) → Distinct identities → length identities ≤ 126 → Fills seed cap identities)
 -- "There, only slot 1 occupied: DISORDER, placed 0, slot 1", whatever marks and order hold
 Says K =
     (seed cap count identity : ℕ) (marks order : List ℕ) → Given cap count marks order
@@ -146,6 +157,7 @@ cases I = λ e seed limits identity some fit far. (
   rw (first-insert e seed limits some fit identity far, sub-zero (slotOfTwo (elasticKeyOf seed identity))),
   rw (first-insert e seed limits some fit identity far, first-query e seed limits some fit identity),
 )
+cases J = λ seed cap least most. (opens seed cap least most, fills seed cap least most)
 cases K = λ seed cap count identity marks order given. ended-so (only-second seed cap count marks order given identity)
 cases L = λ seed cap count identity marks order given. ended-so (twice seed cap count marks order given identity)
 cases M = λ seed cap count marks order given. ended-so (empty seed cap count marks order given)

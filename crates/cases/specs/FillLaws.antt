@@ -1,5 +1,5 @@
 -- Case J: distinct identities fill the table in which every level is one bucket, slot by slot. Assumes nothing.
-use mathlib.Core.List.{List, [], _∷_, _++_, append-assoc}
+use mathlib.Core.List.{List, [], _∷_, _++_, append-assoc, append-nil}
 use mathlib.Core.Path.{_≡_, refl, sym, ap, _∙_}
 use Prim.Native.Nat.{ℕ, zero, suc, _+_, _-_, _≤_, _<_}
 use native.Mathlib.Omega.{arith}
@@ -10,12 +10,17 @@ use Rattle.funnel.specs.declared.table.FunnelTable.{FunnelTable}
 use Rattle.funnel.specs.declared.table.Insertion.{Insertion}
 use Rattle.funnel.specs.declared.table.Insertion.the-variants as insertion
 use Rattle.funnel.specs.declared.table.InsertAnswer.the-variants as inserted
+use Rattle.funnel.specs.declared.table.Search.the-variants as search
 use Rattle.funnel.specs.Valid.{Valid}
 use Rattle.funnel.specs.Fresh.{State}
 use Rattle.funnel.specs.Insert.{done, stepped, insertOf}
 use Rattle.funnel.specs.InsertLaws.{insert-inserted, insert-spent-vacant, insert-duplicate}
-use Rattle.funnel.specs.Calls.{insertions, insertionReport, placeValues}
-use Rattle.funnel.specs.CallLaws.{valid-gate, insert-passed}
+use Rattle.geometry.specs.declared.config.Gated.the-variants.{Passed}
+use Rattle.geometry.specs.FunnelGateLaws.{plan-passes}
+use Rattle.funnel.specs.declared.table.OpenAnswer.the-variants as opening
+use Rattle.funnel.specs.Calls.{Opens, insertions, insertionReport, placeValues}
+use Rattle.funnel.specs.CallLaws.{limits-pass, lengths-pass, open-gate-later, valid-gate, insert-passed}
+use Rattle.funnel.specs.Search.{findOf}
 use Rattle.funnel.specs.SearchLaws.{Passes}
 use Rattle.cases.specs.OneBucket.{counts, table, zeros, ordinary, called, stateAfter, callsOf, opened, reportAt, Distinct, Other, held, Fills}
 use Rattle.cases.specs.OneBucketLaws.{zeros-at, is-plan, find-vacant, find-hit}
@@ -41,6 +46,16 @@ flags-more k m = set-at (replicate k 1) 0 (zeros m) 1 k (length-replicate {A = �
 -- ---- the calls
 
 module _ (seed cap : ℕ) (least : 1 ≤ cap) (most : cap ≤ 256) where
+  -- the opening
+  pub opens : (old words flags : List ℕ) → length words ≡ 144 → length flags ≡ 144
+      → Opens 144 3 seed cap old words flags (opening.Table (table seed cap 0)) counts (zeros 144) (zeros 144)
+  unfolding Opens
+  opens old words flags w f =
+      let gate =
+      open-gate-later 144 3 cap (length words) (length flags) _ Passed Passed (sym (plan-passes is-plan)) refl (lengths-pass 144 (length words) (length flags) Passed w f)
+      (limits-pass cap Passed (λ z. omega arith) most) in
+      (sym gate, is-plan, refl, refl, refl)
+
   module _ (identities : List ℕ) (few : length identities ≤ 126) where
     abbrev now : State
     now = held seed cap identities
@@ -69,3 +84,66 @@ module _ (seed cap : ℕ) (least : 1 ≤ cap) (most : cap ≤ 256) where
           occupied = flag-set (length identities) (144 - length identities) j (omega arith);
           other = λ e. apart j l (sym (List·getD-append identities (zeros (144 - length identities)) 0 j (omega arith)) ∙ e);
         }
+
+    -- another identity's search ends at the first vacant slot
+    finds : (identity : ℕ) → Other identities identity → findOf (now .table) counts (now .words) (now .flags) identity ≡ search.Vacant (length identities + 1) (ordinary (length identities))
+    finds identity other =
+        find-vacant seed cap identity least (length identities) (now .words) (now .flags) (length identities) (omega arith) (passes identity (length identities) (omega arith) (other .none))
+        (flag-vacant (length identities) (144 - length identities))
+
+    -- another identity, with room: the next slot
+    inserts : (identity : ℕ) → Other identities identity → length identities < 126
+        → called now identity
+        ≡ insertions (inserted.Done (record { answer = insertion.Inserted (length identities + 1) (ordinary (length identities)); table = table seed cap (length identities + 1) }))
+        (set (now .words) (length identities) identity) (set (now .flags) (length identities) 1)
+    inserts identity other room =
+        answers identity _ _ _ _
+        (insert-inserted (now .table) (length identities) counts (now .words) (now .flags) identity room (length identities + 1) (ordinary (length identities)) (length identities)
+        (finds identity other) refl)
+
+    -- and without
+    exhausts : (identity : ℕ) → Other identities identity → length identities ≡ 126
+        → called now identity ≡ insertions (inserted.Done (record { answer = insertion.Exhausted (length identities + 1); table = now .table })) (now .words) (now .flags)
+    exhausts identity other full =
+        answers identity _ _ _ _
+        (insert-spent-vacant (now .table) (length identities) counts (now .words) (now .flags) identity (omega arith) (length identities + 1) (ordinary (length identities))
+        (finds identity other))
+
+    -- a member
+    repeats : Distinct identities → (i : ℕ) → i < length identities
+        → called now (getD identities i 0) ≡ insertions (inserted.Done (record { answer = insertion.Duplicate (i + 1) (ordinary i); table = now .table })) (now .words) (now .flags)
+    repeats distinct i within =
+        answers (getD identities i 0) _ _ _ _
+        (insert-duplicate (now .table) (length identities) counts (now .words) (now .flags) (getD identities i 0) (i + 1) (ordinary i)
+        (find-hit seed cap (getD identities i 0) least (length identities) (now .words) (now .flags) i (omega arith)
+        (passes (getD identities i 0) i (omega arith) (λ j l. distinct .apart j i l within))
+        (flag-set (length identities) (144 - length identities) i within) (List·getD-append identities (zeros (144 - length identities)) 0 i within)))
+
+  -- one more is held, in turn
+  holds-next : (identities : List ℕ) (identity : ℕ) → Other identities identity → length identities < 126
+      → stateAfter (held seed cap identities .table) (called (held seed cap identities) identity) ≡ held seed cap (identities ++ (identity ∷ []))
+  holds-next identities identity other room =
+      let l : length (identities ++ (identity ∷ [])) ≡ length identities + 1 = length-append identities (identity ∷ []) in
+      let m : 144 - length identities ≡ suc (144 - (length identities + 1)) = omega arith in
+      rw (inserts identities (omega arith) identity other room, l, m, words-more identities identity (144 - (length identities + 1)), flags-more (length identities) (144 - (length identities + 1)))
+
+  -- and so are all of a list
+  holds-all : (before after : List ℕ) → Distinct (before ++ after) → length (before ++ after) ≤ 126 → callsOf (held seed cap before) after ≡ held seed cap (before ++ after)
+  unfolding callsOf
+  holds-all before [] distinct few = ap (held seed cap) (sym (append-nil before))
+  holds-all before (identity ∷ after) distinct few =
+      let s : (before ++ (identity ∷ [])) ++ after ≡ before ++ (identity ∷ after) = append-assoc before (identity ∷ []) after in
+      let l = length-append before (identity ∷ after) in
+      let other : Other before identity =
+      record { none = λ i h e. distinct .apart i (length before) h (omega arith) (List·getD-append before (identity ∷ after) 0 i h ∙ e ∙ sym (getD-append-seam before identity after 0)) } in
+      rw (holds-next before identity other (omega arith)) (holds-all (before ++ (identity ∷ [])) after (rw s distinct) (rw s few) ∙ ap (held seed cap) s)
+
+  pub fills : (identities : List ℕ) → Distinct identities → length identities ≤ 126 → Fills seed cap identities
+  fills identities distinct few =
+      let h : callsOf (opened seed cap) identities ≡ held seed cap identities = holds-all [] identities distinct few in
+      record {
+        holds = h;
+        next = λ identity other room. rw (h, inserts identities few identity other room);
+        spent = λ identity other full. rw (h, exhausts identities few identity other full, full);
+        member = λ i within. rw (h, repeats identities few distinct i within);
+      }
