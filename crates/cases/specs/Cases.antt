@@ -1,8 +1,8 @@
 -- 01's checked cases A to M: what each says, in one table, and one proof of all. Assumes nothing.
 use mathlib.Core.Bool.{Bool, true, false}
 use mathlib.Core.List.{List, [], _∷_}
-use mathlib.Core.Path.{_≡_, refl, sym, ap, _∙_}
-use Prim.Native.Nat.{ℕ, _-_, _*_, _^_, _≤_, _<_, min}
+use mathlib.Core.Path.{_≡_, refl, ap}
+use Prim.Native.Nat.{ℕ, _-_, _^_, _≤_, _<_, min}
 use native.Mathlib.Nat.{sub-zero}
 use native.Mathlib.Omega.{arith}
 use lib.Dec.{leb}
@@ -13,20 +13,23 @@ use Rattle.refusal.specs.declared.Name.the-variants as name
 use Rattle.words.specs.Log.{ceilLog2, firstFrom}
 use Rattle.words.specs.Pick.{pick}
 use Rattle.geometry.specs.declared.config.Gated.the-variants as gated
-use Rattle.geometry.specs.Config.{configThen, maximum}
+use Rattle.geometry.specs.Config.{maximum}
 use Rattle.geometry.specs.ConfigLaws.{config-pass}
 use Rattle.geometry.specs.Elastic.{levelLength, split, lengthsOf, total, padded, layBy, elasticPlanOf, plannedReport}
 use Rattle.geometry.specs.Special.{loglog}
 use Rattle.probe.specs.Budget.{probesOf, budgetOf, budgetReport}
 use Rattle.probe.specs.Counter.{elasticPackedOf, packedReport}
 use Rattle.probe.specs.Length.{lengthIn, bitsOf}
+use Rattle.probe.specs.Mix.{xorBits, mix64Of}
 use Rattle.probe.specs.Phi.{pairs, phi, parse, start, coordsOf}
 use Rattle.probe.specs.Position.{positionOf, positionReport, boundedOf, boundedReport, coordinatesOf, coordinatesReport}
-use Rattle.probe.specs.Range.{elasticReduceOf, reducedReport}
-use Rattle.probe.specs.Word.{elasticKeyOf}
+use Rattle.probe.specs.Range.{wordsAt, reduceOf, drawOf, elasticReduceOf, reducedReport}
+use Rattle.probe.specs.Word.{elasticKeyOf, wordOf}
 use Rattle.probe.specs.ReportLaws.{elastic-reduce-report}
 use Rattle.elastic.specs.declared.state.Limits.{Limits}
 use Rattle.elastic.specs.State.{limitsFit, freshOf}
+use Rattle.elastic.specs.StateLaws.{limits-facts}
+use Rattle.elastic.specs.Reading.{readingOf}
 use Rattle.elastic.specs.Insert.{insertOf, refusalReport, insertReport}
 use Rattle.elastic.specs.Query.{queryOf, queryReport}
 use Rattle.funnel.specs.declared.table.OpenAnswer.the-variants as opening
@@ -36,7 +39,7 @@ use Rattle.audit.specs.Check.{Ended, ended, checkOf, reportOf}
 use Rattle.cases.specs.OneBucket.{counts, table, zeros, Distinct, Fills, Given, Ends}
 use Rattle.cases.specs.FillLaws.{opens, fills}
 use Rattle.cases.specs.CheckLaws.{empty, only-second, twice}
-use Rattle.cases.specs.FirstInsertLaws.{slotOfTwo, first-refused, first-insert, first-query}
+use Rattle.cases.specs.FirstInsertLaws.{two-reading, first-insert, first-query, first-refused}
 
 pub data Letter : Type 0 where
   A : Letter
@@ -139,7 +142,8 @@ all-free e c = let m : min 0 e ≡ 0 = omega arith in rw m (omega arith)
 
 pub cases : (letter : Letter) → Says letter
 unfolding positionOf boundedOf coordinatesOf phi pairs coordsOf start parse bitsOf lengthIn elasticPackedOf budgetOf probesOf ceilLog2 firstFrom loglog
-    elasticPlanOf layBy plannedReport lengthsOf split levelLength padded total insertReport refusalReport queryReport
+    elasticPlanOf layBy plannedReport lengthsOf split levelLength padded total readingOf drawOf reduceOf wordsAt wordOf elasticKeyOf
+    mix64Of xorBits insertReport refusalReport queryReport
 cases A = (refl, refl, refl)
 cases B = (refl, refl, refl)
 cases C = refl
@@ -151,12 +155,11 @@ cases D = λ seed identity level probe u cap some. (
 cases E = (refl, refl)
 cases F = ((λ e c some. rw (ne-eqb c 0 some, all-free e c)), refl)
 cases G = ((λ e lengths quotas some. rw (config-pass 2 e gated.Passed (omega arith) some (omega arith)) (refl, refl)), refl)
-cases H = λ e limits some fit one. rw (first-refused e limits some fit one)
-cases I = λ e seed limits identity some fit far. (
-  slotOfTwo (elasticKeyOf seed identity),
-  rw (first-insert e seed limits some fit identity far, sub-zero (slotOfTwo (elasticKeyOf seed identity))),
-  rw (first-insert e seed limits some fit identity far, first-query e seed limits some fit identity),
-)
+cases H = λ e limits some fit one. rw (first-refused e 0 limits some fit 0x61C8864680B583EB (record { words = 1 }) (rw one))
+cases I = λ e seed limits identity some fit far.
+    let r = two-reading (elasticKeyOf seed identity) (limits .«range_word_cap») (limits-facts e limits fit .words-some) in
+    let insert = first-insert e seed limits some fit identity (r .0) (r .1) (r .2) far in
+    (r .0, rw (insert, sub-zero (r .0)), rw (insert, first-query e seed limits some fit identity (r .0) (r .1) (r .2)))
 cases J = λ seed cap least most. (opens seed cap least most, fills seed cap least most)
 cases K = λ seed cap count identity marks order given. ended-so (only-second seed cap count marks order given identity)
 cases L = λ seed cap count identity marks order given. ended-so (twice seed cap count marks order given identity)

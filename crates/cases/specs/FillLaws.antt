@@ -5,7 +5,6 @@ use Prim.Native.Nat.{ℕ, zero, suc, _+_, _-_, _≤_, _<_}
 use native.Mathlib.Omega.{arith}
 use lib.ListN.{length, getD, set, replicate, length-replicate, length-append, replicate-append-replicate, List·getD-append}
 use lib.Seq.{set-append-seam, set-at, getD-append-seam}
-use Rattle.words.specs.declared.place.Place.{Place}
 use Rattle.funnel.specs.declared.table.FunnelTable.{FunnelTable}
 use Rattle.funnel.specs.declared.table.Insertion.{Insertion}
 use Rattle.funnel.specs.declared.table.Insertion.the-variants as insertion
@@ -13,17 +12,18 @@ use Rattle.funnel.specs.declared.table.InsertAnswer.the-variants as inserted
 use Rattle.funnel.specs.declared.table.Search.the-variants as search
 use Rattle.funnel.specs.Valid.{Valid}
 use Rattle.funnel.specs.Fresh.{State}
-use Rattle.funnel.specs.Insert.{done, stepped, insertOf}
+use Rattle.funnel.specs.FreshLaws.{zero-at}
+use Rattle.funnel.specs.Insert.{done, insertOf}
 use Rattle.funnel.specs.InsertLaws.{insert-inserted, insert-spent-vacant, insert-duplicate}
 use Rattle.geometry.specs.declared.config.Gated.the-variants.{Passed}
 use Rattle.geometry.specs.FunnelGateLaws.{plan-passes}
 use Rattle.funnel.specs.declared.table.OpenAnswer.the-variants as opening
-use Rattle.funnel.specs.Calls.{Opens, insertions, insertionReport, placeValues}
+use Rattle.funnel.specs.Calls.{Opens, insertions}
 use Rattle.funnel.specs.CallLaws.{limits-pass, lengths-pass, open-gate-later, valid-gate, insert-passed}
 use Rattle.funnel.specs.Search.{findOf}
 use Rattle.funnel.specs.SearchLaws.{Passes}
-use Rattle.cases.specs.OneBucket.{counts, table, zeros, ordinary, called, stateAfter, callsOf, opened, reportAt, Distinct, Other, held, Fills}
-use Rattle.cases.specs.OneBucketLaws.{zeros-at, is-plan, find-vacant, find-hit}
+use Rattle.cases.specs.OneBucket.{counts, table, zeros, ordinary, called, stateAfter, callsOf, opened, Distinct, Other, held, Fills}
+use Rattle.cases.specs.OneBucketLaws.{is-plan, find-vacant, find-hit}
 
 -- ---- set flags, and vacant ones after them
 
@@ -33,7 +33,7 @@ flag-set (suc k) m zero h e = omega arith
 flag-set (suc k) m (suc j) h e = flag-set k m j (omega arith) e
 
 flag-vacant : (k m : ℕ) → getD (replicate k 1 ++ zeros m) k 0 ≡ 0
-flag-vacant zero m = zeros-at m 0
+flag-vacant zero m = zero-at m 0
 flag-vacant (suc k) m = flag-vacant k m
 
 -- one slot more

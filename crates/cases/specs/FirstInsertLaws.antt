@@ -1,31 +1,27 @@
--- The first insertion into a fresh elastic table of n slots, for every exponent and limits: in two slots it is placed and found (01's
--- case I), in five an identity can be refused by its reduction (case H). Assumes nothing.
-use mathlib.Core.Bool.{Bool, true, false}
+-- The first insertion into a fresh elastic table, at every exponent and with all limits: in two slots it is placed and found (case I), in five
+-- an identity whose first word is rejected is refused (case H). Assumes nothing.
+use mathlib.Core.Bool.{true}
 use mathlib.Core.List.{List, [], _∷_}
-use mathlib.Core.Path.{_≡_, refl, sym, ap, _∙_}
-use Prim.Native.Nat.{ℕ, zero, suc, _+_, _-_, _*_, _/_, _%_, _^_, _≤_, _<_, min}
+use mathlib.Core.Path.{_≡_, refl, sym}
+use Prim.Native.Nat.{ℕ, zero, suc, _-_, _*_, _/_, _%_, _^_, _≤_, _<_, min}
 use native.Mathlib.Nat.{div-lt-self, zero-add}
 use native.Mathlib.Omega.{arith}
-use lib.Dec.{eqb, ltb, leb}
-use lib.ListN.{length, getD, set, replicate, length-set}
+use lib.ListN.{set, replicate, getD-replicate, length-set}
 use lib.Pow.{pow-mono}
 use lib.Seq.{getD-set-same}
-use borrow.Author.Tests.{eq-eqb, ne-eqb, lt-ltb, le-ltb, le-leb, lt-leb}
-use Rattle.words.specs.declared.place.LogicalProbe.{LogicalProbe}
+use borrow.Author.Tests.{eq-eqb, lt-ltb, le-ltb, le-leb, lt-leb}
+use Rattle.refusal.specs.declared.RangeRefusal.{RangeRefusal}
 use Rattle.words.specs.Log.{ceilLog2, firstFrom}
-use Rattle.words.specs.Pick.{pick}
 use Rattle.geometry.specs.declared.config.Gated.the-variants as gated
-use Rattle.geometry.specs.Config.{configThen, maximum}
+use Rattle.geometry.specs.Config.{maximum}
 use Rattle.geometry.specs.ConfigLaws.{config-pass}
 use Rattle.geometry.specs.Elastic.{levelLength, split, levelsOf, lengthsOf, planOf, laterQuotas, uncutQuotas, cut, quotasOf, total, batchFrom, batchOf, isPlanOf}
-use Rattle.probe.specs.Mix.{xorBits, mix64Of}
 use Rattle.probe.specs.Word.{elasticKeyOf, wordOf}
 use Rattle.probe.specs.WordLaws.{word-below}
 use Rattle.probe.specs.Range.{wordsAt, reduceOf, drawOf}
 use Rattle.probe.specs.Length.{lengthIn, bitsOf}
 use Rattle.probe.specs.Phi.{pairs, phi}
 use Rattle.elastic.specs.declared.state.Limits.{Limits}
-use Rattle.elastic.specs.declared.state.State.{State}
 use Rattle.elastic.specs.declared.route.Reading.the-variants as reading
 use Rattle.elastic.specs.declared.route.Sought.the-variants as sought
 use Rattle.elastic.specs.declared.insert.Chosen.the-variants as chosen
@@ -33,11 +29,11 @@ use Rattle.elastic.specs.declared.insert.Case.the-variants.{Batch0}
 use Rattle.elastic.specs.declared.insert.InsertAnswer.the-variants as inserted
 use Rattle.elastic.specs.declared.insert.InsertRefusal.the-variants as refusal
 use Rattle.elastic.specs.declared.query.QueryAnswer.the-variants as queried
-use Rattle.elastic.specs.State.{limitsFit, countsWithin, countsFit, stateFits, settingGate, gateOf, freshOf, LimitsFacts}
+use Rattle.elastic.specs.State.{limitsFit, countsWithin, countsFit, stateFits, settingGate, gateOf, freshOf}
 use Rattle.elastic.specs.StateLaws.{limits-facts}
 use Rattle.elastic.specs.Reading.{readingOf, holdsAt, seekFrom, seekOf, firstFrom as firstSlot, firstOf}
 use Rattle.elastic.specs.Insert.{uniformOf, stepsOf, chooseOf, done, counted, insertionOf, placeBy, insertOf}
-use Rattle.elastic.specs.Query.{positionsOf, queryOf}
+use Rattle.elastic.specs.Query.{queryOf}
 use Rattle.elastic.specs.QueryLaws.{first-hit}
 
 -- ---- a fresh table of n slots
@@ -61,37 +57,26 @@ module _ (n e seed : ℕ) (limits : Limits) (least : 2 ≤ n) (most : n ≤ 4294
 
 -- ---- two slots
 
--- the slot that an identity's first word gives: of two values none is rejected
-unfoldable pub slotOfTwo : (key : ℕ) → ℕ
-slotOfTwo key = wordOf key key 0 * 2 / 2 ^ 64
-
-two-below : (key : ℕ) → slotOfTwo key < 2
-unfolding slotOfTwo
-two-below key = let b = word-below key key 0 in omega arith
-
-two-reading : (key words : ℕ) → 0 < words → readingOf 2 key words 0 0 ≡ reading.Slot (slotOfTwo key) 1
-unfolding slotOfTwo readingOf lengthsOf split levelLength ceilLog2 firstFrom total drawOf wordsAt reduceOf
+-- of two values no word is rejected
+pub two-reading : (key words : ℕ) → 0 < words → (slot : ℕ) × (slot < 2) × (readingOf 2 key words 0 0 ≡ reading.Slot slot 1)
+unfolding readingOf lengthsOf split levelLength ceilLog2 firstFrom total drawOf wordsAt reduceOf
 two-reading key zero h = absurd (omega arith)
-two-reading key (suc k) h = rw (le-leb 0 (wordOf key key 0 * 2 % 2 ^ 64) (omega arith), zero-add (wordOf key key 0 * 2 / 2 ^ 64))
+two-reading key (suc k) h = (
+  wordOf key key 0 * 2 / 2 ^ 64,
+  omega (arith, word-below key key 0),
+  rw (le-leb 0 (wordOf key key 0 * 2 % 2 ^ 64) (omega arith), zero-add (wordOf key key 0 * 2 / 2 ^ 64)),
+)
 
 first-position : phi 1 1 ≡ 13
 unfolding phi pairs bitsOf lengthIn
 first-position = refl
 
 -- two words, or two flags, of a fresh table
-abbrev pub two-zeros : List ℕ
-two-zeros = 0 ∷ 0 ∷ []
+abbrev zeros : List ℕ
+zeros = replicate 2 0
 
--- a flag of two is vacant where both are
-two-vacant : (s : ℕ) → s < 2 → getD two-zeros s 0 ≡ 0
-two-vacant zero h = refl
-two-vacant (suc zero) h = refl
-two-vacant (suc (suc s)) h = absurd (omega arith)
-
-module _ (e seed : ℕ) (limits : Limits) (some : 0 < e) (fit : limitsFit e limits ≡ true) (id : ℕ) where
-  abbrev pub key : ℕ
-  key = elasticKeyOf seed id
-
+module _ (e seed : ℕ) (limits : Limits) (some : 0 < e) (fit : limitsFit e limits ≡ true) (id slot : ℕ) (below : slot < 2)
+    (reads : readingOf 2 (elasticKeyOf seed id) (limits .«range_word_cap») 0 0 ≡ reading.Slot slot 1) where
   two-gate : gateOf (freshOf 2 e seed limits) (replicate 32 0) 2 2 ≡ gated.Passed
   unfolding countsFit countsWithin lengthsOf split levelLength ceilLog2 firstFrom total
   two-gate = gate-passes 2 e seed limits (omega arith) (omega arith) some fit 0 (replicate 32 0) 2 2 (omega arith) refl refl refl
@@ -100,72 +85,60 @@ module _ (e seed : ℕ) (limits : Limits) (some : 0 < e) (fit : limitsFit e limi
   unfolding lengthsOf split levelLength ceilLog2 firstFrom uncutQuotas laterQuotas
   two-batch = first-batch 2 e seed limits (omega arith) (omega arith) some fit 2 [] refl (omega arith)
 
-  first-sought : seekOf 2 key (limits .«range_word_cap») two-zeros 0 (limits .«uniform_search_probe_cap») ≡ sought.Vacant (slotOfTwo key) (record { 0 = 0 })
+  two-sought : seekOf 2 (elasticKeyOf seed id) (limits .«range_word_cap») zeros 0 (limits .«uniform_search_probe_cap») ≡ sought.Vacant slot (record { 0 = 0 })
   unfolding seekFrom
-  first-sought =
+  two-sought =
       let f = limits-facts e limits fit in
       let t : limits .«uniform_search_probe_cap» ≡ suc (limits .«uniform_search_probe_cap» - 1) = omega (arith, f .search-some) in
-      rw (t, two-reading key (limits .«range_word_cap») (f .words-some), two-vacant (slotOfTwo key) (two-below key))
+      rw (t, reads, getD-replicate {A = ℕ} 2 slot 0 0 below)
 
-  first-chosen : chooseOf (freshOf 2 e seed limits) (replicate 32 0) two-zeros two-zeros id ≡ chosen.Slot (Batch0 0) 0 (slotOfTwo key) (record { 0 = 0 })
+  two-chosen : chooseOf (freshOf 2 e seed limits) (replicate 32 0) zeros zeros id ≡ chosen.Slot (Batch0 0) 0 slot (record { 0 = 0 })
   unfolding chooseOf firstOf firstSlot holdsAt stepsOf uniformOf
-  first-chosen = rw (lt-leb (maximum 2 e) 0 (room 2 e seed limits (omega arith) (omega arith) some fit), two-batch, first-sought)
+  two-chosen = rw (lt-leb (maximum 2 e) 0 (room 2 e seed limits (omega arith) (omega arith) some fit), two-batch, two-sought)
 
   -- "Elastic first insert in n=2, position cap at least 13: phi 13"
-  module _ (far : 13 ≤ limits .«hit_query_position_cap») where
-    pub first-insert : insertOf (freshOf 2 e seed limits) (replicate 32 0) two-zeros two-zeros id
-        ≡ done (inserted.Inserted (insertionOf 2 (Batch0 0) 0 (slotOfTwo key) (record { 0 = 0 }))) (counted (freshOf 2 e seed limits)) (set (replicate 32 0) 0 1) (set two-zeros (slotOfTwo key) id) (set two-zeros (slotOfTwo key) 1)
-    unfolding insertOf placeBy
-    first-insert = rw (two-gate, first-chosen, first-position, le-ltb (limits .«hit_query_position_cap») 13 far)
+  pub first-insert : 13 ≤ limits .«hit_query_position_cap» → insertOf (freshOf 2 e seed limits) (replicate 32 0) zeros zeros id
+      ≡ done (inserted.Inserted (insertionOf 2 (Batch0 0) 0 slot (record { 0 = 0 }))) (counted (freshOf 2 e seed limits)) (set (replicate 32 0) 0 1) (set zeros slot id) (set zeros slot 1)
+  unfolding insertOf placeBy
+  first-insert far = rw (two-gate, two-chosen, first-position, le-ltb (limits .«hit_query_position_cap») 13 far)
 
-  -- ".. its query answers position 1, mapped 0, gap 1, 1 word"
+  -- the state that it leaves passes the gate, and holds the identity
   next-gate : (words flags : ℕ) → words ≡ 2 → flags ≡ 2 → gateOf (counted (freshOf 2 e seed limits)) (set (replicate 32 0) 0 1) words flags ≡ gated.Passed
   unfolding countsFit countsWithin lengthsOf split levelLength ceilLog2 firstFrom total
   next-gate words flags w f = gate-passes 2 e seed limits (omega arith) (omega arith) some fit 1 (set (replicate 32 0) 0 1) words flags (omega arith) w f refl
 
-  next-holds : holdsAt (set two-zeros (slotOfTwo key) id) (set two-zeros (slotOfTwo key) 1) id (slotOfTwo key) ≡ true
+  next-holds : holdsAt (set zeros slot id) (set zeros slot 1) id slot ≡ true
   unfolding holdsAt
-  next-holds =
-      let l = two-below key in
-      rw (getD-set-same two-zeros (slotOfTwo key) 1 0 l, getD-set-same two-zeros (slotOfTwo key) id 0 l, eq-eqb id id refl)
+  next-holds = rw (getD-set-same zeros slot 1 0 below, getD-set-same zeros slot id 0 below, eq-eqb id id refl)
 
-  pub first-query : queryOf (counted (freshOf 2 e seed limits)) (set (replicate 32 0) 0 1) (set two-zeros (slotOfTwo key) id) (set two-zeros (slotOfTwo key) 1) id
-      ≡ queried.Found (record { position = 1; «global_slot» = record { 0 = slotOfTwo key }; mapped = 0; gap = 1; words = 1 })
+  -- "its query answers position 1, mapped 0, gap 1, 1 word"
+  pub first-query : queryOf (counted (freshOf 2 e seed limits)) (set (replicate 32 0) 0 1) (set zeros slot id) (set zeros slot 1) id
+      ≡ queried.Found (record { position = 1; «global_slot» = record { 0 = slot }; mapped = 0; gap = 1; words = 1 })
   unfolding queryOf
   first-query =
-      let f = limits-facts e limits fit in
-      rw (next-gate _ _ (length-set two-zeros (slotOfTwo key) id) (length-set two-zeros (slotOfTwo key) 1))
-      (sym (first-hit _ _ _ _ (f .position-some) (slotOfTwo key) 1 (two-reading key (limits .«range_word_cap») (f .words-some)) next-holds))
+      rw (next-gate _ _ (length-set zeros slot id) (length-set zeros slot 1))
+      (sym (first-hit _ _ _ _ (limits-facts e limits fit .position-some) slot 1 reads next-holds))
 
 -- ---- five slots
 
--- the identity of 01's case H
-abbrev pub rejected : ℕ
-rejected = 0x61C8864680B583EB
-
--- its first word in level 0, of length 3, is rejected
-five-reading : readingOf 5 (elasticKeyOf 0 rejected) 1 0 0 ≡ reading.Refused (record { words = 1 })
-unfolding readingOf lengthsOf split levelLength ceilLog2 firstFrom total drawOf wordsAt reduceOf wordOf elasticKeyOf mix64Of xorBits
-five-reading = refl
-
-module _ (e : ℕ) (limits : Limits) (some : 0 < e) (fit : limitsFit e limits ≡ true) (one : limits .«range_word_cap» ≡ 1) where
-  five-gate : gateOf (freshOf 5 e 0 limits) (replicate 32 0) 5 5 ≡ gated.Passed
+module _ (e seed : ℕ) (limits : Limits) (some : 0 < e) (fit : limitsFit e limits ≡ true) (id : ℕ) (range : RangeRefusal)
+    (rejected : readingOf 5 (elasticKeyOf seed id) (limits .«range_word_cap») 0 0 ≡ reading.Refused range) where
+  five-gate : gateOf (freshOf 5 e seed limits) (replicate 32 0) 5 5 ≡ gated.Passed
   unfolding countsFit countsWithin lengthsOf split levelLength ceilLog2 firstFrom total
-  five-gate = gate-passes 5 e 0 limits (omega arith) (omega arith) some fit 0 (replicate 32 0) 5 5 (omega arith) refl refl refl
+  five-gate = gate-passes 5 e seed limits (omega arith) (omega arith) some fit 0 (replicate 32 0) 5 5 (omega arith) refl refl refl
 
   five-batch : batchOf 5 e 0 ≡ 0
   unfolding lengthsOf split levelLength ceilLog2 firstFrom uncutQuotas laterQuotas
-  five-batch = first-batch 5 e 0 limits (omega arith) (omega arith) some fit 3 _ refl (omega arith)
+  five-batch = first-batch 5 e seed limits (omega arith) (omega arith) some fit 3 _ refl (omega arith)
 
-  five-sought : seekOf 5 (elasticKeyOf 0 rejected) (limits .«range_word_cap») (replicate 5 0) 0 (limits .«uniform_search_probe_cap») ≡ sought.Refused (record { words = 1 })
+  five-sought : seekOf 5 (elasticKeyOf seed id) (limits .«range_word_cap») (replicate 5 0) 0 (limits .«uniform_search_probe_cap») ≡ sought.Refused range
   unfolding seekFrom
   five-sought =
       let f = limits-facts e limits fit in
       let t : limits .«uniform_search_probe_cap» ≡ suc (limits .«uniform_search_probe_cap» - 1) = omega (arith, f .search-some) in
-      rw (t, one, five-reading)
+      rw (t, rejected)
 
-  -- "Elastic n=5, seed 0, word cap 1, identity 61C8864680B583EB: RANGE, 1 word"
-  pub first-refused : insertOf (freshOf 5 e 0 limits) (replicate 32 0) (replicate 5 0) (replicate 5 0) rejected
-      ≡ done (inserted.Refused (refusal.Range (record { words = 1 }))) (freshOf 5 e 0 limits) (replicate 32 0) (replicate 5 0) (replicate 5 0)
+  pub first-refused : insertOf (freshOf 5 e seed limits) (replicate 32 0) (replicate 5 0) (replicate 5 0) id
+      ≡ done (inserted.Refused (refusal.Range range)) (freshOf 5 e seed limits) (replicate 32 0) (replicate 5 0) (replicate 5 0)
   unfolding insertOf chooseOf firstOf firstSlot holdsAt stepsOf uniformOf placeBy
-  first-refused = rw (five-gate, lt-leb (maximum 5 e) 0 (room 5 e 0 limits (omega arith) (omega arith) some fit), five-batch, five-sought)
+  first-refused = rw (five-gate, lt-leb (maximum 5 e) 0 (room 5 e seed limits (omega arith) (omega arith) some fit), five-batch, five-sought)

@@ -1,13 +1,13 @@
 -- Laws of the funnel table in which every level is one bucket: its plan, and its paths, which start with the ordinary slots in order,
 -- whatever the seed, the word cap and the identity. Assumes nothing.
 use mathlib.Core.Bool.{true}
-use mathlib.Core.List.{List, [], _∷_, _++_, append-assoc}
+use mathlib.Core.List.{List, _∷_, _++_, append-assoc}
 use mathlib.Core.Path.{_≡_, refl, sym, ap, _∙_}
 use Prim.Native.Nat.{ℕ, zero, suc, _+_, _-_, _*_, _/_, _%_, _^_, _≤_, _<_}
 use native.Mathlib.Nat.{dvd-of-mod-eq-zero}
 use native.Mathlib.Omega.{arith}
 use lib.Dec.{lit≤}
-use lib.ListN.{length, take, getD, set, replicate, length-replicate, length-append, getD-replicate, List·getD-append}
+use lib.ListN.{length, take, getD, replicate, length-replicate, getD-replicate, List·getD-append}
 use lib.Seq.{take-append-le}
 use borrow.Author.Tests.{le-leb}
 use Rattle.words.specs.Log.{firstFrom, ceilLog2}
@@ -31,9 +31,9 @@ use Rattle.probe.specs.RangeLaws.{draw-first}
 use Rattle.funnel.specs.declared.table.Search.the-variants as search
 use Rattle.funnel.specs.Path.{Path, run, join, levelStart, bucketFrom, levelsFrom, primaryFrom, fallbackOf, primaryStart, fallbackStart, pathOf}
 use Rattle.funnel.specs.Every.{Every}
-use Rattle.funnel.specs.Search.{walkOf, searchOf, tablePath, findOf}
+use Rattle.funnel.specs.Search.{searchOf, tablePath, findOf}
 use Rattle.funnel.specs.SearchLaws.{Passes, Reached, reached-vacant, reached-hit}
-use Rattle.cases.specs.OneBucket.{plan, counts, table, zeros, ordinary, ordinaries}
+use Rattle.cases.specs.OneBucket.{plan, counts, table, ordinary, ordinaries}
 
 -- ---- the plan
 
@@ -154,13 +154,6 @@ bucket-ordinary level i (suc w) h =
     let r : (level * 6 + i) % 6 ≡ i = omega arith in
     let s : level * 6 + suc i ≡ suc (level * 6 + i) = omega arith in
     rw (q, r) (ap (λ (l : List Place). place.Ordinary level 0 i (record { 0 = level * 6 + i }) ∷ l) (bucket-ordinary level (suc i) w (omega arith) ∙ ap (λ (k : ℕ). ordinaries k w) s))
-
--- ---- vacant slots
-
-pub zeros-at : (n i : ℕ) → getD (zeros n) i 0 ≡ 0
-zeros-at zero i = refl
-zeros-at (suc n) zero = refl
-zeros-at (suc n) (suc i) = zeros-at n i
 
 -- ---- the path
 
