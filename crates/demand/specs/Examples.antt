@@ -1,4 +1,4 @@
--- Worked examples of the check at (144, 3), past its gate: 01's cases K, L and M, computed. Assumes nothing.
+-- Worked examples of the check at (144, 3), past its gate, computed. Assumes nothing.
 use mathlib.Core.List.{List, [], _∷_, _++_}
 use mathlib.Core.Path.{_≡_, refl}
 use Prim.Native.Nat.{ℕ}
@@ -31,21 +31,6 @@ counts = replicate 22 1 ++ replicate 96 0
 -- what the check leaves of an image that starts with these words and flags, from marks of 7 and an order of 9
 abbrev checkedAt : (words flags : List ℕ) (rest : ℕ) → Ended
 checkedAt words flags rest = auditOf table counts (words ++ replicate rest 0) (flags ++ replicate rest 0) (replicate 144 7) (replicate 144 9)
-
--- K. "There, only slot 1 occupied: DISORDER, placed 0, slot 1."
-pub case-k : checkedAt (0 ∷ 7 ∷ []) (0 ∷ 1 ∷ []) 142 ≡ ended (checked.Disorder 0 1) (replicate 144 0) (replicate 144 9)
-unfolding auditOf takeAll endOf dirtyAt firstFrom unplaced ready greedyOf insertOf insertBy findOf searchOf walkOf pathOf join levelsFrom primaryFrom fallbackOf bucketFrom pairsFrom total funnelDrawOf drawOf reduceOf wordsAt wordOf funnelInOf funnelOutOf mix64Of xorShift xorBits
-case-k = refl
-
--- L. "Equal identities in 0 and 1: placed 1, slot 1."
-pub case-l : checkedAt (7 ∷ 7 ∷ []) (1 ∷ 1 ∷ []) 142 ≡ ended (checked.Disorder 1 1) (1 ∷ replicate 143 0) (0 ∷ replicate 143 9)
-unfolding auditOf takeAll endOf dirtyAt firstFrom unplaced ready greedyOf insertOf insertBy findOf searchOf walkOf pathOf join levelsFrom primaryFrom fallbackOf bucketFrom pairsFrom total funnelDrawOf drawOf reduceOf wordsAt wordOf funnelInOf funnelOutOf mix64Of xorShift xorBits
-case-l = refl
-
--- M. "Empty: accepted, order empty."
-pub case-m : checkedAt [] [] 144 ≡ ended (checked.Accepted 0) (replicate 144 0) (replicate 144 9)
-unfolding auditOf takeAll endOf dirtyAt firstFrom unplaced ready greedyOf insertOf insertBy findOf searchOf walkOf pathOf join levelsFrom primaryFrom fallbackOf bucketFrom pairsFrom total funnelDrawOf drawOf reduceOf wordsAt wordOf funnelInOf funnelOutOf mix64Of xorShift xorBits
-case-m = refl
 
 -- two members in turn: accepted, with their slots in the order
 pub two : checkedAt (7 ∷ 9 ∷ []) (1 ∷ 1 ∷ []) 142 ≡ ended (checked.Accepted 2) (1 ∷ 1 ∷ replicate 142 0) (0 ∷ 1 ∷ replicate 142 9)

@@ -1,6 +1,6 @@
 -- The insertion: the choice of a slot, and what is written. Assumes nothing.
 use mathlib.Core.Bool.{Bool, true, false}
-use mathlib.Core.List.{List, [], _∷_}
+use mathlib.Core.List.{List, [], _∷_, _++_}
 use Prim.Native.Nat.{ℕ, zero, suc, _+_, _-_, _*_, _/_, _^_}
 use lib.Dec.{eqb, ltb, leb}
 use lib.ListN.{length, getD, set}
@@ -166,3 +166,11 @@ refusalReport refusal.Schedule = refused name.Schedule []
 refusalReport (refusal.Range r) = refused name.Range (r .words ∷ [])
 refusalReport refusal.Search = refused name.Search []
 refusalReport refusal.Position = refused name.Position []
+
+-- an insertion by its case, level, slot in level, global slot, paper probe and phi
+unfoldable pub insertReport : InsertAnswer → Report
+insertReport (answer.Inserted i) =
+    answered
+    (caseValues (i .case)
+    ++ (i .location .level ∷ i .location .«slot_in_level» .0 ∷ i .location .«global_slot» .0 ∷ i .«paper_probe» .0 ∷ i .phi ∷ []))
+insertReport (answer.Refused r) = refusalReport r

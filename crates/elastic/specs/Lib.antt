@@ -1,5 +1,3 @@
-pub mod CaseLaws
-pub mod Examples
 pub mod Insert
 pub mod InsertLaws
 pub mod Query

@@ -138,7 +138,7 @@ occupied-set [] s l v = absurd (omega arith)
 occupied-set (flag ∷ flags) zero l v = let e : eqb flag 0 ≡ true = eq-eqb flag 0 v in rw e (omega arith)
 occupied-set (flag ∷ flags) (suc s) l v = let h = occupied-set flags s (omega arith) v in omega arith
 
-zero-at : (n i : ℕ) → getD {A = ℕ} (replicate n 0) i 0 ≡ 0
+pub zero-at : (n i : ℕ) → getD {A = ℕ} (replicate n 0) i 0 ≡ 0
 zero-at zero i = refl
 zero-at (suc n) zero = refl
 zero-at (suc n) (suc i) = zero-at n i
