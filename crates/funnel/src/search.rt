@@ -139,7 +139,7 @@ fn first_bucket(key: FunnelKey, counts: &[u64; 118], alpha: u64, level: u64) -> 
     }
     first_index(
         key,
-        funnel_base(Domain::Ordinary { level }, 0),
+        funnel_base(Domain::Ordinary { level }, LogicalProbe(0)),
         counts[level as usize],
     )
 }
@@ -153,7 +153,7 @@ fn draw_level(key: FunnelKey, counts: &[u64; 118], alpha: u64, level: u64, cap: 
         return Drawn::Refused(RangeRefusal { words: 0 });
     }
     let count = counts[level as usize];
-    sample(key, Domain::Ordinary { level }, 0, count, cap)
+    sample(key, Domain::Ordinary { level }, LogicalProbe(0), count, cap)
 }
 
 // "then g primary probes", among the primary slots from `start` on, with some probes made before
@@ -175,7 +175,7 @@ fn search_primary(
     let mut made = probes;
     while probe < loglog_ceiling {
         let cap = table.word_cap;
-        match sample(key, Domain::Primary, probe, primary_len, cap) {
+        match sample(key, Domain::Primary, LogicalProbe(probe), primary_len, cap) {
             Drawn::Refused(refusal) => {
                 return Search::Range(refusal);
             }
@@ -213,10 +213,10 @@ fn search_fallback(
     let buckets = table.plan.fallback_bucket_count;
     let width = table.plan.fallback_bucket_width;
     let cap = table.word_cap;
-    match sample(key, Domain::FallbackA, 0, buckets, cap) {
+    match sample(key, Domain::FallbackA, LogicalProbe(0), buckets, cap) {
         Drawn::Refused(refusal) => Search::Range(refusal),
         Drawn::Index { index: a, words: _ } => {
-            match sample(key, Domain::FallbackB, 0, buckets, cap) {
+            match sample(key, Domain::FallbackB, LogicalProbe(0), buckets, cap) {
                 Drawn::Refused(refusal) => Search::Range(refusal),
                 Drawn::Index { index: b, words: _ } => {
                     let at_a = start + a * width;
@@ -229,9 +229,9 @@ fn search_fallback(
 }
 
 // An index below upper, by the key of an identity: the Rust's `sample`.
-fn sample(key: FunnelKey, domain: Domain, probe: u64, upper: u64, cap: u64) -> Drawn
-    requires { ⌜ (levelOf domain < 2 ^ 46) × (probe < 256) × (0 < upper) × (cap ≤ 256) ⌝ }
-    ensures { λ r. ⌜ r ≡ drawOf (key .inner) (key .outer) (funnelCounterOf domain probe 0) upper cap ⌝ }
+fn sample(key: FunnelKey, domain: Domain, probe: LogicalProbe, upper: u64, cap: u64) -> Drawn
+    requires { ⌜ (levelOf domain < 2 ^ 46) × (probe .0 < 256) × (0 < upper) × (cap ≤ 256) ⌝ }
+    ensures { λ r. ⌜ r ≡ drawOf (key .inner) (key .outer) (funnelCounterOf domain (probe .0) 0) upper cap ⌝ }
 {
-    funnel_draw(key, funnel_base(domain, LogicalProbe(probe)), upper, cap)
+    funnel_draw(key, funnel_base(domain, probe), upper, cap)
 }
