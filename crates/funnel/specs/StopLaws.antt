@@ -1,11 +1,10 @@
 -- Laws of where a search stops, as loops use them. Assumes nothing.
-use mathlib.Core.List.{List, [], _∷_}
+use mathlib.Core.List.{List}
 use mathlib.Core.Path.{_≡_, refl, ap, sym, subst, _∙_}
 use Prim.Native.Nat.{ℕ, _+_, _-_, _*_, _≤_, _<_}
 use native.Mathlib.Nat.{zero-mul}
 use native.Mathlib.Omega.{arith}
-use lib.ListN.{length, getD}
-use Rattle.words.specs.declared.place.Place.{Place}
+use lib.ListN.{getD}
 use Rattle.probe.specs.declared.counter.Domain.the-variants as domain
 use Rattle.probe.specs.declared.range.Drawn.the-variants as drawn
 use Rattle.probe.specs.declared.word.FunnelKey.{FunnelKey}
@@ -21,7 +20,7 @@ use Rattle.funnel.specs.StageLaws.{BucketLeft, bucket-none, bucket-vacan
 use Rattle.funnel.specs.FindLaws.{levelsPart, find-levels}
 use Rattle.funnel.specs.PlanLaws.{level-none, level-room, bucket-room}
 use Rattle.funnel.specs.Valid.{Valid, Keyed}
-use Rattle.funnel.specs.Stop.{HitAt, VacantAt, StopsAt, BucketStops, FirstAhead}
+use Rattle.funnel.specs.Stop.{StopsAt, BucketStops, FirstAhead}
 
 -- a search that stopped has stopped for good
 pub stops-resume : (words flags : List ℕ) (identity : ℕ) (q : Path) (r : Stop) (found : Search) (P Q : Type 0) → (r ≡ stop.Nowhere → Q)

@@ -64,19 +64,19 @@ pub fn pass(words: &[u64], flags: &[u8], identity: u64, from: u64, w: u64) -> St
     let mut i = 0;
     while i < w {
         let slot = from + i;
-        let s = slot as usize;
-        if flags[s] == 0 {
+        let first = slot as usize;
+        if flags[first] == 0 {
             return Stop::Vacant { slot };
         }
-        if words[s] == identity {
+        if words[first] == identity {
             return Stop::Hit { slot };
         }
         let next = slot + 1;
-        let t = next as usize;
-        if flags[t] == 0 {
+        let second = next as usize;
+        if flags[second] == 0 {
             return Stop::Vacant { slot: next };
         }
-        if words[t] == identity {
+        if words[second] == identity {
             return Stop::Hit { slot: next };
         }
         i += 2;

@@ -1,6 +1,6 @@
 -- `funnel::search::pass_levels` meets its contract. The invariant: no level before the present one stops the search, and its bucket is drawn. Assumes nothing.
-use Prim.Native.Nat.{_-_, _<_}
-use mathlib.Core.Path.{_≡_, subst}
+use Prim.Native.Nat.{_-_}
+use mathlib.Core.Path.{subst}
 use native.Mathlib.Omega.{arith}
 use borrow.Author.Needs.{needs}
 use Rattle.geometry.specs.FunnelLaws.{plan-facts}
