@@ -2,7 +2,6 @@
 use crate::check;
 use crate::load;
 use crate::request::Asked;
-use crate::request::Opening;
 use crate::request::Request;
 use crate::write;
 use funnel::calls::open;
@@ -11,6 +10,7 @@ use funnel::table::OpenAnswer;
 use script::digest::word_buffer;
 use script::funnels::Size;
 use script::funnels::size_of;
+use script::opening::Opening;
 use script::print;
 use text::out::put_byte;
 
