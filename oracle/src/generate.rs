@@ -131,6 +131,14 @@ impl Group {
         }
     }
 
+    /// A line that every sample has.
+    fn stored(&mut self, line: impl AsRef<[u8]>) {
+        match &mut self.sink {
+            Sink::All(_) => self.line(line),
+            Sink::Few(sample) => sample.lines.push(line.as_ref().to_vec()),
+        }
+    }
+
     /// True for as many of a full-size list as the size asks for.
     fn thin(&mut self) -> bool {
         self.random.below(100) < self.percent

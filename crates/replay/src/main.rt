@@ -1,11 +1,10 @@
 // replay: reads a script of calls, one command a line, and prints every answer. The same commands fed to the oracle,
 // the Rust beside this repository, give the same lines; a sample of its answers is this program's stored output.
 //
-//
 // A line that is no command prints `?`. A line longer than 524,288 bytes, or a table of more than 65,536 slots, is more
 // than this program holds, and prints `L`.
 
-use script::command;
+use script_images::command;
 use text::line::Gathered;
 use text::line::gather;
 use text::out::flush;

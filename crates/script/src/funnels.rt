@@ -4,10 +4,25 @@ use crate::digest::count_refusal;
 use crate::digest::put_digest;
 use crate::digest::put_refusals;
 use crate::digest::word_buffer;
+use crate::opening::Head;
+use crate::opening::Kind;
+use crate::opening::MOST_SLOTS;
+use crate::opening::Opening;
+use crate::opening::Request;
+use crate::opening::is_unknown;
+use crate::opening::opening_of;
+use crate::opening::request_of;
 use crate::operation::Operation;
-use crate::operation::are_operations;
 use crate::operation::parse;
 use crate::print;
+use crate::print::Said;
+use crate::print::put_answer;
+use crate::print::say_duplicate;
+use crate::print::say_gate;
+use crate::print::say_nothing;
+use crate::print::say_placed;
+use crate::print::say_range;
+use crate::print::say_refused_with;
 use funnel::calls::insert;
 use funnel::calls::open;
 use funnel::calls::search;
@@ -22,19 +37,21 @@ use geometry::funnel::funnel_gate;
 use refusal::Name;
 use text::field::field_after;
 use text::field::field_end;
-use text::field::numbers;
 use text::out::put;
 use text::out::put_byte;
 use text::out::put_decimal;
 use text::out::put_field;
 
-// The most slots that a table has here.
-pub const MOST_SLOTS: u64 = 65536;
-
-// A table and the place in the output, after an operation.
+// A table's count and the place in the output, after an operation.
 struct Standing {
-    table: FunnelTable,
+    count: u64,
     at: usize,
+}
+
+// A table's count after an operation, and what the operation is answered.
+struct Applied {
+    count: u64,
+    said: Said,
 }
 
 // Whether a table is refused by 1 to 6, too large to hold, or can be opened.
@@ -42,6 +59,14 @@ pub enum Size {
     Fits,
     Large,
     Refused(Name),
+}
+
+// A run that can be done, or what it is answered instead.
+enum Asked {
+    Of { opening: Opening, request: Request },
+    Refused(Name),
+    Large,
+    Unknown,
 }
 
 pub fn size_of(n: u64, e: u32, cap: u64) -> Size {
@@ -62,73 +87,110 @@ pub fn size_of(n: u64, e: u32, cap: u64) -> Size {
     }
 }
 
-// FRUN n e seed cap OPS
-pub fn run(line: &[u8], args: usize, out: &mut [u8], at: usize) -> usize {
-    let mut a = [0u64; 4];
-    let row = numbers(line, args, &mut a);
-    if !row.good {
-        return print::unknown(out, at);
-    }
-    let e = a[1];
-    if row.count != 4 {
-        return print::unknown(out, at);
-    }
-    if 4294967295 < e {
-        return print::unknown(out, at);
-    }
-    if !are_operations(line, row.next, a[0], b's') {
-        return print::unknown(out, at);
-    }
-    match size_of(a[0], e as u32, a[3]) {
-        Size::Refused(name) => print::refused(name, out, at),
-        Size::Large => put_byte(out, at, b'L'),
-        Size::Fits => run_table(line, row.next, a, out, at),
+// FRUN n e seed cap OPS, FBULK n e seed cap start count
+pub fn command(kind: Kind, line: &[u8], args: usize, out: &mut [u8], at: usize) -> usize {
+    match asked_by(kind, line, args) {
+        Asked::Unknown => print::unknown(out, at),
+        Asked::Refused(name) => print::refused(name, out, at),
+        Asked::Large => put_byte(out, at, b'L'),
+        Asked::Of { opening, request } => held(opening, request, line, out, at),
     }
 }
 
-fn run_table(line: &[u8], from: usize, a: [u64; 4], out: &mut [u8], at: usize) -> usize {
+fn asked_by(kind: Kind, line: &[u8], args: usize) -> Asked {
+    match opening_of(line, args) {
+        Head::Unknown => Asked::Unknown,
+        Head::Of { opening, next } => {
+            sized(opening, request_of(kind, line, next, opening.n, b's'))
+        }
+    }
+}
+
+fn sized(opening: Opening, request: Request) -> Asked {
+    if is_unknown(request) {
+        return Asked::Unknown;
+    }
+    match size_of(opening.n, opening.e, opening.cap) {
+        Size::Refused(name) => Asked::Refused(name),
+        Size::Large => Asked::Large,
+        Size::Fits => Asked::Of { opening, request },
+    }
+}
+
+fn held(opening: Opening, request: Request, line: &[u8], out: &mut [u8], at: usize) -> usize {
     let mut words = word_buffer();
     let mut flags = io::large_buffer();
-    run_cut(line, from, a, &mut words, &mut flags, out, at)
+    cut(opening, request, line, &mut words, &mut flags, out, at)
 }
 
 // The run in the first n slots of large buffers.
-fn run_cut(
+fn cut(
+    opening: Opening,
+    request: Request,
     line: &[u8],
-    from: usize,
-    a: [u64; 4],
     words: &mut [u64],
     flags: &mut [u8],
     out: &mut [u8],
     at: usize,
 ) -> usize {
-    let n = a[0] as usize;
+    let n = opening.n as usize;
     if words.len() < n {
         return at;
     }
     if flags.len() < n {
         return at;
     }
-    run_in(line, from, a, &mut words[..n], &mut flags[..n], out, at)
+    opened(
+        opening,
+        request,
+        line,
+        &mut words[..n],
+        &mut flags[..n],
+        out,
+        at,
+    )
 }
 
-fn run_in(
+fn opened(
+    opening: Opening,
+    request: Request,
     line: &[u8],
-    from: usize,
-    a: [u64; 4],
     words: &mut [u64],
     flags: &mut [u8],
     out: &mut [u8],
     at: usize,
 ) -> usize {
     let mut counts = [0u64; 118];
-    let e = a[1];
-    if 4294967295 < e {
-        return at;
-    }
-    match open(a[0], e as u32, a[2], a[3], &mut counts, words, flags) {
+    match open(
+        opening.n,
+        opening.e,
+        opening.seed,
+        opening.cap,
+        &mut counts,
+        words,
+        flags,
+    ) {
         OpenAnswer::Gate(gate) => print::gate(gate, out, at),
-        OpenAnswer::Table(table) => run_opened(line, from, table, &counts, words, flags, out, at),
+        OpenAnswer::Table(table) => done(request, line, table, &counts, words, flags, out, at),
+    }
+}
+
+fn done(
+    request: Request,
+    line: &[u8],
+    table: FunnelTable,
+    counts: &[u64; 118],
+    words: &mut [u64],
+    flags: &mut [u8],
+    out: &mut [u8],
+    at: usize,
+) -> usize {
+    match request {
+        Request::Unknown => at,
+        Request::Run { from } => run_opened(line, from, table, counts, words, flags, out, at),
+        Request::Bulk { start, many } => {
+            bulk_opened(start, many, table, counts, words, flags, out, at)
+        }
     }
 }
 
@@ -148,7 +210,7 @@ fn run_opened(
 
 fn put_end(end: Standing, words: &[u64], flags: &[u8], out: &mut [u8]) -> usize {
     let mut to = put(out, end.at, b"END");
-    to = put_field(out, to, end.table.count);
+    to = put_field(out, to, end.count);
     put_digest(words, flags, out, to)
 }
 
@@ -163,7 +225,7 @@ fn operations(
     out: &mut [u8],
     at: usize,
 ) -> Standing {
-    let mut now = Standing { table, at };
+    let mut now = Standing { count: 0, at };
     let mut next = from;
     // A line has no more fields than bytes, since none is empty.
     let mut turns = line.len();
@@ -172,7 +234,15 @@ fn operations(
             return now;
         }
         let end = field_end(line, next);
-        now = apply(parse(line, next, end), now, counts, words, flags, out);
+        now = apply(
+            parse(line, next, end),
+            now,
+            table,
+            counts,
+            words,
+            flags,
+            out,
+        );
         next = field_after(line, end);
         turns -= 1;
     }
@@ -182,50 +252,124 @@ fn operations(
 fn apply(
     op: Operation,
     now: Standing,
+    table: FunnelTable,
     counts: &[u64; 118],
     words: &mut [u64],
     flags: &mut [u8],
     out: &mut [u8],
 ) -> Standing {
-    let mut table = now.table;
-    let at = now.at;
+    let done = carried_out(op, now.count, table, counts, words, flags);
+    let said = done.said;
+    Standing {
+        count: done.count,
+        at: put_answer(said, out, now.at),
+    }
+}
+
+fn carried_out(
+    op: Operation,
+    count: u64,
+    table: FunnelTable,
+    counts: &[u64; 118],
+    words: &mut [u64],
+    flags: &mut [u8],
+) -> Applied {
     match op {
-        Operation::Insert(identity) => {
-            match insert(table, counts, words, flags, identity) {
-                InsertAnswer::Gate(gate) => {
-                    let to = print::gate(gate, out, at);
-                    Standing {
-                        table,
-                        at: put(out, to, b"; "),
-                    }
-                }
-                InsertAnswer::Done(step) => {
-                    let answer = step.answer;
-                    let next = step.table;
-                    Standing {
-                        table: next,
-                        at: put_insertion(answer, out, at),
-                    }
-                }
-            }
-        }
-        Operation::Ask(identity) => {
-            let answer = search(table, counts, words, flags, identity);
-            Standing {
-                table,
-                at: put_search(answer, out, at),
-            }
-        }
+        Operation::Insert(identity) => inserted(identity, count, table, counts, words, flags),
+        Operation::Ask(identity) => asked_for(identity, count, table, counts, words, flags),
         Operation::Occupy { slot, identity } => {
             occupy(words, flags, slot, identity);
-            Standing { table, at }
+            silent(count)
         }
-        Operation::Count(count) => {
-            table.count = count;
-            Standing { table, at }
+        Operation::Count(next) => silent(next),
+        Operation::Level { level: _, count: _ } => silent(count),
+        Operation::Unknown => silent(count),
+    }
+}
+
+fn silent(count: u64) -> Applied {
+    Applied {
+        count,
+        said: say_nothing(),
+    }
+}
+
+fn counted(table: FunnelTable, count: u64) -> FunnelTable {
+    let mut next = table;
+    next.count = count;
+    next
+}
+
+// An insertion into a table with this count.
+fn inserted(
+    identity: u64,
+    count: u64,
+    table: FunnelTable,
+    counts: &[u64; 118],
+    words: &mut [u64],
+    flags: &mut [u8],
+) -> Applied {
+    of_insert(
+        count,
+        insert(counted(table, count), counts, words, flags, identity),
+    )
+}
+
+fn of_insert(count: u64, answer: InsertAnswer) -> Applied {
+    match answer {
+        InsertAnswer::Gate(gate) => Applied {
+            count,
+            said: say_gate(gate),
+        },
+        InsertAnswer::Done(step) => {
+            let next = step.table;
+            let insertion = step.answer;
+            Applied {
+                count: next.count,
+                said: of_insertion(insertion),
+            }
         }
-        Operation::Level { level: _, count: _ } => Standing { table, at },
-        Operation::Unknown => Standing { table, at },
+    }
+}
+
+fn of_insertion(answer: Insertion) -> Said {
+    match answer {
+        Insertion::Inserted { probes, place } => say_placed(b'I', probes, place),
+        Insertion::Duplicate { probes, place } => say_duplicate(probes, place),
+        Insertion::Range(range) => say_range(range),
+        Insertion::Exhausted { probes } => say_refused_with(Name::Exhausted, probes),
+        Insertion::Full { probes } => say_refused_with(Name::Full, probes),
+    }
+}
+
+// A search of a table with this count.
+fn asked_for(
+    identity: u64,
+    count: u64,
+    table: FunnelTable,
+    counts: &[u64; 118],
+    words: &[u64],
+    flags: &[u8],
+) -> Applied {
+    Applied {
+        count,
+        said: of_search(search(counted(table, count), counts, words, flags, identity)),
+    }
+}
+
+fn of_search(answer: SearchAnswer) -> Said {
+    match answer {
+        SearchAnswer::Gate(gate) => say_gate(gate),
+        SearchAnswer::Found(found) => of_found(found),
+    }
+}
+
+fn of_found(found: Search) -> Said {
+    match found {
+        Search::Hit { probes, place } => say_placed(b'H', probes, place),
+        Search::Vacant { probes, place } => say_placed(b'V', probes, place),
+        Search::Full { probes } => say_refused_with(Name::Full, probes),
+        Search::Range(range) => say_range(range),
     }
 }
 
@@ -240,109 +384,6 @@ pub fn occupy(words: &mut [u64], flags: &mut [u8], slot: u64, identity: u64) {
     }
     words[i] = identity;
     flags[i] = 1;
-}
-
-fn put_insertion(answer: Insertion, out: &mut [u8], at: usize) -> usize {
-    let to = put_answer(answer, out, at);
-    put(out, to, b"; ")
-}
-
-fn put_answer(answer: Insertion, out: &mut [u8], at: usize) -> usize {
-    match answer {
-        Insertion::Inserted { probes, place } => {
-            let to = put(out, at, b"I");
-            print::probes_and_place(probes, place, out, to)
-        }
-        Insertion::Duplicate { probes, place } => {
-            let to = print::refused(Name::Duplicate, out, at);
-            print::probes_and_place(probes, place, out, to)
-        }
-        Insertion::Range(range) => print::range(range, out, at),
-        Insertion::Exhausted { probes } => print::refused_with(Name::Exhausted, probes, out, at),
-        Insertion::Full { probes } => print::refused_with(Name::Full, probes, out, at),
-    }
-}
-
-fn put_search(answer: SearchAnswer, out: &mut [u8], at: usize) -> usize {
-    match answer {
-        SearchAnswer::Gate(gate) => {
-            let to = print::gate(gate, out, at);
-            put(out, to, b"; ")
-        }
-        SearchAnswer::Found(found) => {
-            let to = put_found(found, out, at);
-            put(out, to, b"; ")
-        }
-    }
-}
-
-fn put_found(found: Search, out: &mut [u8], at: usize) -> usize {
-    match found {
-        Search::Hit { probes, place } => {
-            let to = put(out, at, b"H");
-            print::probes_and_place(probes, place, out, to)
-        }
-        Search::Vacant { probes, place } => {
-            let to = put(out, at, b"V");
-            print::probes_and_place(probes, place, out, to)
-        }
-        Search::Full { probes } => print::refused_with(Name::Full, probes, out, at),
-        Search::Range(range) => print::range(range, out, at),
-    }
-}
-
-// FBULK n e seed cap start count
-pub fn bulk(line: &[u8], args: usize, out: &mut [u8], at: usize) -> usize {
-    let mut a = [0u64; 6];
-    let row = numbers(line, args, &mut a);
-    if !row.good {
-        return print::unknown(out, at);
-    }
-    let e = a[1];
-    if row.count != 6 {
-        return print::unknown(out, at);
-    }
-    if row.next <= line.len() {
-        return print::unknown(out, at);
-    }
-    if 4294967295 < e {
-        return print::unknown(out, at);
-    }
-    match size_of(a[0], e as u32, a[3]) {
-        Size::Refused(name) => print::refused(name, out, at),
-        Size::Large => put_byte(out, at, b'L'),
-        Size::Fits => bulk_table(a, out, at),
-    }
-}
-
-fn bulk_table(a: [u64; 6], out: &mut [u8], at: usize) -> usize {
-    let mut words = word_buffer();
-    let mut flags = io::large_buffer();
-    bulk_cut(a, &mut words, &mut flags, out, at)
-}
-
-// The run in the first n slots of large buffers.
-fn bulk_cut(a: [u64; 6], words: &mut [u64], flags: &mut [u8], out: &mut [u8], at: usize) -> usize {
-    let n = a[0] as usize;
-    if words.len() < n {
-        return at;
-    }
-    if flags.len() < n {
-        return at;
-    }
-    bulk_in(a, &mut words[..n], &mut flags[..n], out, at)
-}
-
-fn bulk_in(a: [u64; 6], words: &mut [u64], flags: &mut [u8], out: &mut [u8], at: usize) -> usize {
-    let mut counts = [0u64; 118];
-    let e = a[1];
-    if 4294967295 < e {
-        return at;
-    }
-    match open(a[0], e as u32, a[2], a[3], &mut counts, words, flags) {
-        OpenAnswer::Gate(gate) => print::gate(gate, out, at),
-        OpenAnswer::Table(table) => bulk_opened(a[4], a[5], table, &counts, words, flags, out, at),
-    }
 }
 
 fn bulk_opened(
@@ -368,15 +409,15 @@ fn put_bulk(
     out: &mut [u8],
     at: usize,
 ) -> usize {
-    let mut to = put_decimal(out, at, end.table.count);
+    let mut to = put_decimal(out, at, end.count);
     to = put_refusals(times, out, to);
     to = put_field(out, to, end.probes);
     put_digest(words, flags, out, to)
 }
 
-// A table, and the sum of the probes of all insertions.
+// A table's count, and the sum of the probes of all insertions.
 struct Tallied {
-    table: FunnelTable,
+    count: u64,
     probes: u64,
 }
 
@@ -389,11 +430,22 @@ fn insert_all(
     flags: &mut [u8],
     times: &mut [u64; 32],
 ) -> Tallied {
-    let mut now = Tallied { table, probes: 0 };
+    let mut now = Tallied {
+        count: 0,
+        probes: 0,
+    };
     let mut k = 0;
     while k < many {
         k += 1;
-        now = insert_one(bulk_identity(start, k), now, counts, words, flags, times);
+        now = insert_one(
+            bulk_identity(start, k),
+            now,
+            table,
+            counts,
+            words,
+            flags,
+            times,
+        );
     }
     now
 }
@@ -401,48 +453,29 @@ fn insert_all(
 fn insert_one(
     identity: u64,
     now: Tallied,
+    table: FunnelTable,
     counts: &[u64; 118],
     words: &mut [u64],
     flags: &mut [u8],
     times: &mut [u64; 32],
 ) -> Tallied {
-    let table = now.table;
-    match insert(table, counts, words, flags, identity) {
-        InsertAnswer::Gate(gate) => {
-            count_refusal(times, refusal::number(refusal::gate_name(gate)));
-            now
-        }
-        InsertAnswer::Done(step) => {
-            let next = step.table;
-            let answer = step.answer;
-            let probes = std::num::wrapping_add_u64(now.probes, tally(answer, times));
-            Tallied {
-                table: next,
-                probes,
-            }
-        }
+    let done = inserted(identity, now.count, table, counts, words, flags);
+    let said = done.said;
+    Tallied {
+        count: done.count,
+        probes: std::num::wrapping_add_u64(now.probes, tally(said, times)),
     }
 }
 
-// Counts a refusal, and answers the probes of an insertion.
-fn tally(answer: Insertion, times: &mut [u64; 32]) -> u64 {
-    match answer {
-        Insertion::Inserted { probes, place: _ } => probes,
-        Insertion::Duplicate { probes, place: _ } => {
-            count_refusal(times, refusal::number(Name::Duplicate));
-            probes
-        }
-        Insertion::Range(_) => {
-            count_refusal(times, refusal::number(Name::Range));
-            0
-        }
-        Insertion::Exhausted { probes } => {
-            count_refusal(times, refusal::number(Name::Exhausted));
-            probes
-        }
-        Insertion::Full { probes } => {
-            count_refusal(times, refusal::number(Name::Full));
-            probes
-        }
+// Counts a refusal, and answers the probes of an insertion. A reduction's words are none.
+fn tally(said: Said, times: &mut [u64; 32]) -> u64 {
+    let row = said.row;
+    if said.letter == b'I' {
+        return row[0];
     }
+    count_refusal(times, row[0]);
+    if row[0] == refusal::number(Name::Range) {
+        return 0;
+    }
+    row[1]
 }

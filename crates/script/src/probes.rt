@@ -1,5 +1,16 @@
-// MIX EP FP EW FW ER FR PHI PHB PHINV BUD: the leaves.
-use crate::print;
+// MIX EP FP EW FW ER FR PHI PHB PHINV BUD: the leaves. Each is worked out as a value, which one function prints.
+use crate::print::Said;
+use crate::print::put_said;
+use crate::print::say_coord;
+use crate::print::say_number;
+use crate::print::say_range;
+use crate::print::say_refused;
+use crate::print::say_refused_with;
+use crate::print::say_two;
+use crate::print::say_unknown;
+use crate::print::say_wide;
+use crate::word::Leaf;
+use crate::word::leaf_of;
 use probe::budget::Budgeted;
 use probe::budget::budget;
 use probe::counter::Domain;
@@ -25,14 +36,10 @@ use text::field::OneWord;
 use text::field::TwoWords;
 use text::field::field_after;
 use text::field::field_end;
-use text::field::is_word;
 use text::field::number;
 use text::field::numbers;
+use text::field::were_exactly;
 use text::field::wide_number;
-use text::out::put;
-use text::out::put_decimal;
-use text::out::put_field;
-use text::out::put_wide;
 use words::place::LogicalProbe;
 
 // A domain by its tag and level, of which a special one has none.
@@ -41,115 +48,111 @@ enum Named {
     Unknown,
 }
 
-// A command whose arguments are numbers of one word.
-pub fn command(line: &[u8], end: usize, args: usize, out: &mut [u8], at: usize) -> usize {
+// The answer to a command by the number of its word.
+pub fn command(key: u64, line: &[u8], args: usize, out: &mut [u8], at: usize) -> usize {
+    put_said(leaf_answer(leaf_of(key), line, args), out, at)
+}
+
+fn leaf_answer(leaf: Leaf, line: &[u8], args: usize) -> Said {
+    match leaf {
+        Leaf::Unknown => say_unknown(),
+        Leaf::Position => position(line, args),
+        Leaf::Coordinates => coordinates(line, args),
+        Leaf::Mix => numbered(leaf, 1, line, args),
+        Leaf::Bounded => numbered(leaf, 2, line, args),
+        Leaf::ElasticCounter => numbered(leaf, 3, line, args),
+        Leaf::FunnelCounter => numbered(leaf, 4, line, args),
+        Leaf::Budget => numbered(leaf, 4, line, args),
+        Leaf::ElasticWord => numbered(leaf, 5, line, args),
+        Leaf::FunnelWord => numbered(leaf, 6, line, args),
+        Leaf::ElasticReduce => numbered(leaf, 6, line, args),
+        Leaf::FunnelReduce => numbered(leaf, 7, line, args),
+    }
+}
+
+// The answer to a command whose arguments are `arity` numbers of one word.
+fn numbered(leaf: Leaf, arity: usize, line: &[u8], args: usize) -> Said {
     let mut a = [0u64; 7];
     let row = numbers(line, args, &mut a);
-    if !row.good || row.next <= line.len() {
-        return print::unknown(out, at);
+    if were_exactly(line, row, arity) {
+        return of_numbers(leaf, a);
     }
-    let count = row.count;
-    if count == 1 && is_word(line, 0, end, b"MIX") {
-        return put_decimal(out, at, mix64(a[0]));
+    say_unknown()
+}
+
+fn of_numbers(leaf: Leaf, a: [u64; 7]) -> Said {
+    match leaf {
+        Leaf::Unknown => say_unknown(),
+        Leaf::Position => say_unknown(),
+        Leaf::Coordinates => say_unknown(),
+        Leaf::Mix => say_number(mix64(a[0])),
+        Leaf::Bounded => bounded(a[0], a[1]),
+        Leaf::ElasticCounter => packed(elastic_counter(a[0], LogicalProbe(a[1]), a[2])),
+        Leaf::FunnelCounter => packed_of_funnel(a),
+        Leaf::Budget => budgeted(a[0], a[1], a[2], a[3]),
+        Leaf::ElasticWord => word(elastic_word(a[0], a[1], a[2], LogicalProbe(a[3]), a[4])),
+        Leaf::FunnelWord => word_of_funnel(a),
+        Leaf::ElasticReduce => of_reduced(elastic_reduce(a[0], a[1], a[2], LogicalProbe(a[3]), a[4], a[5])),
+        Leaf::FunnelReduce => reduced_of_funnel(a),
     }
-    if count == 3 && is_word(line, 0, end, b"EP") {
-        return put_packed(elastic_counter(a[0], LogicalProbe(a[1]), a[2]), out, at);
-    }
-    if count == 4 && is_word(line, 0, end, b"FP") {
-        return funnel_packed(a, out, at);
-    }
-    if count == 5 && is_word(line, 0, end, b"EW") {
-        return put_word(
-            elastic_word(a[0], a[1], a[2], LogicalProbe(a[3]), a[4]),
-            out,
-            at,
-        );
-    }
-    if count == 6 && is_word(line, 0, end, b"FW") {
-        return word_of_funnel(a, out, at);
-    }
-    if count == 6 && is_word(line, 0, end, b"ER") {
-        return put_reduced(
-            elastic_reduce(a[0], a[1], a[2], LogicalProbe(a[3]), a[4], a[5]),
-            out,
-            at,
-        );
-    }
-    if count == 7 && is_word(line, 0, end, b"FR") {
-        return reduced_of_funnel(a, out, at);
-    }
-    if count == 2 && is_word(line, 0, end, b"PHB") {
-        return bounded(a[0], a[1], out, at);
-    }
-    if count == 4 && is_word(line, 0, end, b"BUD") {
-        return put_budget(a, out, at);
-    }
-    print::unknown(out, at)
 }
 
 // PHI i j, of which i may have two words.
-pub fn position(line: &[u8], args: usize, out: &mut [u8], at: usize) -> usize {
+fn position(line: &[u8], args: usize) -> Said {
     let end = field_end(line, args);
     let from = field_after(line, end);
     if line.len() < from {
-        return print::unknown(out, at);
+        return say_unknown();
     }
     let TwoWords::Value(i) = wide_number(line, args, end) else {
-        return print::unknown(out, at);
+        return say_unknown();
     };
     let OneWord::Value(j) = number(line, from, line.len()) else {
-        return print::unknown(out, at);
+        return say_unknown();
     };
     match phi(i, j) {
-        Position::Overflow => print::refused(Name::Overflow, out, at),
-        Position::Coord(coordinate) => put_coordinate(coordinate, out, at),
-        Position::At(p) => put_wide(out, at, p),
+        Position::Overflow => say_refused(Name::Overflow),
+        Position::Coord(coordinate) => of_coordinate(coordinate),
+        Position::At(p) => say_wide(p.hi, p.lo),
     }
 }
 
 // PHINV p, which may have two words.
-pub fn coordinates(line: &[u8], args: usize, out: &mut [u8], at: usize) -> usize {
+fn coordinates(line: &[u8], args: usize) -> Said {
     let TwoWords::Value(p) = wide_number(line, args, line.len()) else {
-        return print::unknown(out, at);
+        return say_unknown();
     };
     match phi_inverse(p) {
-        Coordinates::Gap => print::refused(Name::Gap, out, at),
-        Coordinates::At { i, j } => {
-            let to = put_wide(out, at, i);
-            put_field(out, to, j)
-        }
+        Coordinates::Gap => say_refused(Name::Gap),
+        Coordinates::At { i, j } => say_two(i.hi, i.lo, 1, j),
     }
 }
 
-fn bounded(i: u64, j: u64, out: &mut [u8], at: usize) -> usize {
+fn bounded(i: u64, j: u64) -> Said {
     if 4294967295 < i {
-        return print::unknown(out, at);
+        return say_unknown();
     }
     match phi_bounded(i as u32, j) {
-        Bounded::Overflow => print::refused(Name::Overflow, out, at),
-        Bounded::Coord(coordinate) => put_coordinate(coordinate, out, at),
-        Bounded::At(p) => put_decimal(out, at, p),
+        Bounded::Overflow => say_refused(Name::Overflow),
+        Bounded::Coord(coordinate) => of_coordinate(coordinate),
+        Bounded::At(p) => say_number(p),
     }
 }
 
-fn put_coordinate(coordinate: Coordinate, out: &mut [u8], at: usize) -> usize {
-    let to = print::refused(Name::Coord, out, at);
+fn of_coordinate(coordinate: Coordinate) -> Said {
     match coordinate {
-        Coordinate::I => put(out, to, b" i"),
-        Coordinate::J => put(out, to, b" j"),
+        Coordinate::I => say_coord(b'i'),
+        Coordinate::J => say_coord(b'j'),
     }
 }
 
-fn put_budget(a: [u64; 7], out: &mut [u8], at: usize) -> usize {
-    if 4294967295 < a[2] {
-        return print::unknown(out, at);
+fn budgeted(free: u64, level: u64, e: u64, c: u64) -> Said {
+    if 4294967295 < e {
+        return say_unknown();
     }
-    match budget(a[0], a[1], a[2], a[3]) {
-        Budgeted::Probes(probes) => put_decimal(out, at, probes),
-        Budgeted::Budget { reason } => {
-            let to = print::refused(Name::Budget, out, at);
-            put_field(out, to, reason)
-        }
+    match budget(free, level, e, c) {
+        Budgeted::Probes(probes) => say_number(probes),
+        Budgeted::Budget { reason } => say_refused_with(Name::Budget, reason),
     }
 }
 
@@ -172,57 +175,46 @@ fn domain(tag: u64, level: u64) -> Named {
     Named::Unknown
 }
 
-fn funnel_packed(a: [u64; 7], out: &mut [u8], at: usize) -> usize {
+fn packed_of_funnel(a: [u64; 7]) -> Said {
     match domain(a[0], a[1]) {
-        Named::Unknown => print::unknown(out, at),
-        Named::Is(d) => put_packed(funnel_counter(d, LogicalProbe(a[2]), a[3]), out, at),
+        Named::Unknown => say_unknown(),
+        Named::Is(d) => packed(funnel_counter(d, LogicalProbe(a[2]), a[3])),
     }
 }
 
-fn word_of_funnel(a: [u64; 7], out: &mut [u8], at: usize) -> usize {
+fn word_of_funnel(a: [u64; 7]) -> Said {
     match domain(a[2], a[3]) {
-        Named::Unknown => print::unknown(out, at),
-        Named::Is(d) => put_word(
-            funnel_word(a[0], a[1], d, LogicalProbe(a[4]), a[5]),
-            out,
-            at,
-        ),
+        Named::Unknown => say_unknown(),
+        Named::Is(d) => word(funnel_word(a[0], a[1], d, LogicalProbe(a[4]), a[5])),
     }
 }
 
-fn reduced_of_funnel(a: [u64; 7], out: &mut [u8], at: usize) -> usize {
+fn reduced_of_funnel(a: [u64; 7]) -> Said {
     match domain(a[2], a[3]) {
-        Named::Unknown => print::unknown(out, at),
-        Named::Is(d) => put_reduced(
-            funnel_reduce(a[0], a[1], d, LogicalProbe(a[4]), a[5], a[6]),
-            out,
-            at,
-        ),
+        Named::Unknown => say_unknown(),
+        Named::Is(d) => of_reduced(funnel_reduce(a[0], a[1], d, LogicalProbe(a[4]), a[5], a[6])),
     }
 }
 
-fn put_packed(packed: PackedCounter, out: &mut [u8], at: usize) -> usize {
-    match packed {
-        PackedCounter::Counter => print::refused(Name::Counter, out, at),
-        PackedCounter::Packed(counter) => put_decimal(out, at, counter),
+fn packed(counter: PackedCounter) -> Said {
+    match counter {
+        PackedCounter::Counter => say_refused(Name::Counter),
+        PackedCounter::Packed(x) => say_number(x),
     }
 }
 
-fn put_word(word: ProbeWord, out: &mut [u8], at: usize) -> usize {
-    match word {
-        ProbeWord::Counter => print::refused(Name::Counter, out, at),
-        ProbeWord::Word(w) => put_decimal(out, at, w),
+fn word(probed: ProbeWord) -> Said {
+    match probed {
+        ProbeWord::Counter => say_refused(Name::Counter),
+        ProbeWord::Word(w) => say_number(w),
     }
 }
 
-fn put_reduced(reduced: Reduced, out: &mut [u8], at: usize) -> usize {
-    match reduced {
-        Reduced::Upper => print::refused(Name::Upper, out, at),
-        Reduced::Counter => print::refused(Name::Counter, out, at),
-        Reduced::Range(range) => print::range(range, out, at),
-        Reduced::Index { index, words } => {
-            let to = put_decimal(out, at, index);
-            put_field(out, to, words)
-        }
+fn of_reduced(answer: Reduced) -> Said {
+    match answer {
+        Reduced::Upper => say_refused(Name::Upper),
+        Reduced::Counter => say_refused(Name::Counter),
+        Reduced::Range(range) => say_range(range),
+        Reduced::Index { index, words } => say_two(0, index, 1, words),
     }
 }

@@ -55,7 +55,8 @@ fn digit(b: u8, base: u64) -> u64 {
     if d < base { d } else { 16 }
 }
 
-fn digit16(b: u8) -> u64 {
+// The hexadecimal digit that a byte is, or 16.
+pub fn digit16(b: u8) -> u64 {
     if b'0' <= b && b <= b'9' {
         return (b - b'0') as u64;
     }

@@ -2,10 +2,10 @@
 
 use std::collections::BTreeMap;
 
-use super::funnel::{any_table, head, plan, special_table};
+use super::funnel::{any_table, head, plan, special_table, special_table_from};
 use super::layouts::has_funnel;
 use super::{Group, spoilt};
-use crate::exact::reference::ScalarFunnelInsert;
+use crate::exact::reference::{ScalarFunnelInsert, ScalarFunnelSearch};
 use crate::funnel::{Table, fresh};
 
 /// The members of an image by their slots.
@@ -13,6 +13,7 @@ type Members = BTreeMap<u64, u64>;
 
 pub fn lines(group: &mut Group) {
     cases(group);
+    crossed_members(group);
     random_tables(group);
     special_tables(group);
     made_up(group);
@@ -90,6 +91,77 @@ fn cases(group: &mut Group) {
             }
         }
     }
+}
+
+/// The slip that looks right: two members, each in the other's slot, and a search finds both. The image with each in
+/// its own slot, the crossed one, and the searches. The first of them is in every sample.
+fn crossed_members(group: &mut Group) {
+    group.section();
+    let mut left = group.times(100).max(3);
+    let mut is_first = true;
+    while left > 0 {
+        let (table, plan, list) = special_table_from(group, 1_000);
+        let (ordinary, rest) = list.split_at(plan.path() as usize);
+        if plan.path() + 2 > plan.maximum {
+            continue;
+        }
+        let Some((honest, crossed)) = search_crossed(&table, ordinary, rest) else {
+            continue;
+        };
+        let shown = |members: &Members, letter: &str| -> String {
+            members
+                .iter()
+                .map(|(slot, id)| format!(" {letter}{slot}={id}"))
+                .collect()
+        };
+        let asked: String = crossed.range(plan.primary..).map(|(_, id)| format!(" s{id}")).collect();
+        for line in [
+            format!("CHECK {} 0{}", head(&table), shown(&honest, "")),
+            format!("CHECK {} 0{}", head(&table), shown(&crossed, "")),
+            format!("FRUN {}{}{asked}", head(&table), shown(&crossed, "o")),
+        ] {
+            if is_first {
+                group.stored(line);
+            } else {
+                group.line(line);
+            }
+        }
+        is_first = false;
+        left -= 1;
+    }
+}
+
+/// A table with all ordinary slots of a path taken and two special members more, where the Rust puts
+/// them; and the same with these two in each other's slots, if its search finds both there.
+fn search_crossed(table: &Table, ordinary: &[u64], rest: &[u64]) -> Option<(Members, Members)> {
+    let full = filled(table, ordinary, false);
+    for (place, &a) in rest.iter().enumerate() {
+        for &b in &rest[place + 1..] {
+            let order: Vec<u64> = ordinary.iter().copied().chain([a, b]).collect();
+            let honest = filled(table, &order, false);
+            let special: Vec<(u64, u64)> = honest
+                .iter()
+                .filter(|(slot, _)| !full.contains_key(slot))
+                .map(|(&slot, &id)| (slot, id))
+                .collect();
+            let &[(p, at_p), (q, at_q)] = special.as_slice() else {
+                continue;
+            };
+            let mut crossed = full.clone();
+            crossed.extend([(p, at_q), (q, at_p)]);
+            let mut rust = fresh(table);
+            for (&slot, &id) in &crossed {
+                rust.occupy(slot as usize, id);
+            }
+            let finds = |id: u64, slot: u64| {
+                matches!(rust.search(id), Ok((ScalarFunnelSearch::Hit(at), _)) if at.global_slot() as u64 == slot)
+            };
+            if finds(at_q, p) && finds(at_p, q) {
+                return Some((honest, crossed));
+            }
+        }
+    }
+    None
 }
 
 /// A table filled by the Rust in this order; `past` lets it go on past the maximum.

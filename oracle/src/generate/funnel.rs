@@ -140,6 +140,13 @@ pub struct Plan {
     pub fallback: u64,
 }
 
+impl Plan {
+    /// How many ordinary slots are on a path.
+    pub fn path(&self) -> u64 {
+        self.counts.len() as u64 * self.beta
+    }
+}
+
 pub fn plan(table: &Table) -> Plan {
     let config = PaperConfig::new(table.n as usize, table.e).expect("within the domain");
     let plan = config.funnel_plan().expect("a layout");
@@ -168,8 +175,9 @@ pub fn bucket(table: &Table, level: usize, buckets: usize, identity: u64) -> usi
 }
 
 /// Identities that all have the same bucket in every level: beta * alpha of them fill these buckets,
-/// and the next ones reach the special part. `None` where such identities are too rare to search for.
-pub fn followers(group: &mut Group, table: &Table, plan: &Plan, many: usize) -> Option<Vec<u64>> {
+/// and the next ones reach the special part. The search starts below `start`. `None` where such
+/// identities are too rare to search for.
+fn followers(group: &mut Group, table: &Table, plan: &Plan, many: usize, start: u64) -> Option<Vec<u64>> {
     let wide: Vec<(usize, usize)> = plan
         .counts
         .iter()
@@ -186,7 +194,7 @@ pub fn followers(group: &mut Group, table: &Table, plan: &Plan, many: usize) -> 
         .map(|&(_, buckets)| group.random.below(buckets as u64) as usize)
         .collect();
     let mut list = Vec::new();
-    let mut identity = group.random.below(1 << 40);
+    let mut identity = group.random.below(start);
     while list.len() < many {
         identity += 1;
         let follows = wide
@@ -203,6 +211,11 @@ pub fn followers(group: &mut Group, table: &Table, plan: &Plan, many: usize) -> 
 /// A table with few wide levels, so that followers can be found, and a list of them that is long
 /// enough to fill the special part.
 pub fn special_table(group: &mut Group) -> (Table, Plan, Vec<u64>) {
+    special_table_from(group, 1 << 40)
+}
+
+/// The same with identities that are searched for from below `start` on.
+pub fn special_table_from(group: &mut Group, start: u64) -> (Table, Plan, Vec<u64>) {
     loop {
         let e = group.random.pick(&[3, 3, 3, 3, 4, 5]);
         let smallest = smallest_funnel(e);
@@ -217,9 +230,8 @@ pub fn special_table(group: &mut Group) -> (Table, Plan, Vec<u64>) {
             cap: group.random.pick(&[1, 8, 256]),
         };
         let plan = plan(&table);
-        let path = plan.counts.len() as u64 * plan.beta;
-        let many = (path + table.n - plan.primary + 12) as usize;
-        if let Some(list) = followers(group, &table, &plan, many) {
+        let many = (plan.path() + table.n - plan.primary + 12) as usize;
+        if let Some(list) = followers(group, &table, &plan, many, start) {
             return (table, plan, list);
         }
     }

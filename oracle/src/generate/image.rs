@@ -83,7 +83,7 @@ fn label(group: &mut Group, length: usize) -> Vec<u8> {
     (0..length).map(|_| group.random.word() as u8).collect()
 }
 
-/// Every truncation and every change of a byte of several small images.
+/// Every truncation and every change of a byte of several small images, and the telling changes of larger ones.
 fn broken_bytes(group: &mut Group) {
     let small = Table {
         n: 144,
@@ -115,7 +115,7 @@ fn broken_bytes(group: &mut Group) {
         }
         for place in 0..image.len() {
             let byte = image[place];
-            for changed in [
+            let telling = [
                 byte ^ 1,
                 byte ^ 0x80,
                 byte.wrapping_add(1),
@@ -125,8 +125,9 @@ fn broken_bytes(group: &mut Group) {
                 4,
                 5,
                 6,
-            ] {
-                if changed != byte && (image.len() < 80 || group.random.below(100) < group.percent.max(25)) {
+            ];
+            for changed in (0..=255).filter(|&changed| changed != byte) {
+                if image.len() < 80 || telling.contains(&changed) && group.random.below(100) < group.percent.max(25) {
                     let mut image = image.clone();
                     image[place] = changed;
                     load(group, &table, &image);

@@ -7,10 +7,10 @@ use Rattle.script.proofs.funnels.insert_all.Statement.{statement}
 use Rattle.script.proofs.funnels.insert_all.Tie as tie
 
 abbrev Inv-loop : tie.InvT-loop
-Inv-loop start many counts words₀ flags₀ times₀ now₀ k₀ words flags times now k = (k ≤ many) × (length words ≡ length words₀) × (length flags ≡ length flags₀)
+Inv-loop start many table counts words₀ flags₀ times₀ now₀ k₀ words flags times now k = (k ≤ many) × (length words ≡ length words₀) × (length flags ≡ length flags₀)
 
 abbrev μ-loop : tie.MeasureT-loop
-μ-loop start many counts words₀ flags₀ times₀ now₀ k₀ words flags times now k = many - k
+μ-loop start many table counts words₀ flags₀ times₀ now₀ k₀ words flags times now k = many - k
 
 loop-holds : tie.Need-loop-holds Inv-loop μ-loop
 loop-holds c = search needs

@@ -6,10 +6,10 @@ use Rattle.script.proofs.funnels.operations.Statement.{statement}
 use Rattle.script.proofs.funnels.operations.Tie as tie
 
 abbrev Inv-loop : tie.InvT-loop
-Inv-loop line from counts words₀ flags₀ out₀ at now₀ next₀ turns₀ words flags out now next turns = (length words ≡ length words₀) × (length flags ≡ length flags₀) × (length out ≡ length out₀)
+Inv-loop line from table counts words₀ flags₀ out₀ at now₀ next₀ turns₀ words flags out now next turns = (length words ≡ length words₀) × (length flags ≡ length flags₀) × (length out ≡ length out₀)
 
 abbrev μ-loop : tie.MeasureT-loop
-μ-loop line from counts words₀ flags₀ out₀ at now₀ next₀ turns₀ words flags out now next turns = turns
+μ-loop line from table counts words₀ flags₀ out₀ at now₀ next₀ turns₀ words flags out now next turns = turns
 
 loop-holds : tie.Need-loop-holds Inv-loop μ-loop
 loop-holds c = search needs
