@@ -14,6 +14,7 @@ mod exact {
 mod calls;
 mod elastics;
 mod funnels;
+mod hostile;
 mod images;
 mod layouts;
 mod measure;
@@ -29,4 +30,5 @@ fn main() {
     funnels::rows(&mut table);
     elastics::rows(&mut table);
     images::rows(&mut table);
+    hostile::rows(&mut table);
 }

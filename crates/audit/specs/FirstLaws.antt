@@ -56,6 +56,13 @@ unfolding firstFrom
 first-all test from zero h = refl
 first-all test from (suc k) h = rw (h from (omega arith) (omega arith)) (first-all test (suc from) k (λ t u l. h t (omega arith) (omega arith)))
 
+-- two tests that agree on the range
+pub first-alike : (test other : ℕ → Bool) (from k : ℕ) → ((t : ℕ) → from ≤ t → t < from + k → test t ≡ other t) → firstFrom test from k ≡ firstFrom other from k
+unfolding firstFrom
+first-alike test other from zero h = refl
+first-alike test other from (suc k) h =
+    rw (h from (omega arith) (omega arith), first-alike test other (suc from) k (λ t l u. h t (omega arith) (omega arith)))
+
 -- ---- as a loop that counts up makes it
 
 pub record Passed (test : ℕ → Bool) (from n i : ℕ) : Type 0 where

@@ -6,3 +6,7 @@ pub mod Greedy
 pub mod GreedyLaws
 pub mod OrdinaryLaws
 pub mod ReadyLaws
+pub mod Special
+pub mod SpecialLaws
+pub mod VerdictLaws
+pub mod Verdicts

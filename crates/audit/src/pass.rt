@@ -1,15 +1,18 @@
 // The two passes over the slots. An ordinary slot depends on smaller slots only, so one rising pass takes those that can be taken;
-// among the special slots a placement can free a smaller one, so there each turn looks from the start of the special part.
+// among the special slots a placement can free a smaller one, but no ordinary slot and nothing in the ordinary part of a path.
 ghost use mathlib.Core.Path.{_≡_};
 ghost use Prim.Native.Nat.{_-_, _≤_};
 ghost use lib.ListN.{length, replicate};
 ghost use Rattle.audit.specs.Greedy.{taken, greedyOf};
 ghost use Rattle.audit.specs.Going.{Going};
+ghost use Rattle.audit.specs.Verdicts.{Early};
 ghost use Rattle.funnel.specs.Path.{primaryStart};
 ghost use Rattle.funnel.specs.Valid.{Valid};
 use crate::ready::is_ready;
-use crate::ready::next_ready;
-use crate::slots::First;
+use crate::special::take_live;
+use crate::verdict::judge;
+use crate::verdict::stow;
+use crate::verdict::unstow;
 use funnel::table::FunnelTable;
 use words::clear::clear_bytes;
 
@@ -41,8 +44,8 @@ fn take_ordinary(
     order: &mut [u64],
     start: u64,
 ) -> u64
-    requires { ⌜ Valid table (now counts) (now words) (now marks) × (length (now flags) ≡ table .n) × (length (now order) ≡ table .n) × (start ≡ primaryStart (table .plan) (now counts)) × (start ≤ table .n) ⌝ }
-    ensures { λ r. ⌜ Going (greedyOf table (now (counts .entry)) (now (words .entry)) (now (flags .entry)) (table .n) (table .n) (now (marks .entry)) (now (order .entry)) 0) table (now (counts .entry)) (now (words .entry)) (now (flags .entry)) (now (marks .exit)) (now (order .exit)) r start ⌝ }
+    requires { ⌜ Valid table (now counts) (now words) (now marks) × (length (now flags) ≡ table .n) × (length (now order) ≡ table .n) × (start ≡ primaryStart (table .plan) (now counts)) × (start ≤ table .n) × Early 0 (now marks) ⌝ }
+    ensures { λ r. ⌜ Early start (now (marks .exit)) × Going (greedyOf table (now (counts .entry)) (now (words .entry)) (now (flags .entry)) (table .n) (table .n) (now (marks .entry)) (now (order .entry)) 0) table (now (counts .entry)) (now (words .entry)) (now (flags .entry)) (now (marks .exit)) (now (order .exit)) r start ⌝ }
 {
     let mut placed = 0;
     let mut slot = 0;
@@ -58,7 +61,8 @@ fn take_ordinary(
     placed
 }
 
-// Takes the smallest ready slot of the special part, which starts at `start`, again and again: how many are placed then.
+// Takes what can be taken of the special part, which starts at `start`: how many are placed then. The ordinary part of each path is
+// read once, for the verdicts.
 fn take_special(
     table: FunnelTable,
     counts: &[u64; 118],
@@ -69,22 +73,12 @@ fn take_special(
     start: u64,
     before: u64,
 ) -> u64
-    requires { ⌜ Valid table (now counts) (now words) (now marks) × (length (now flags) ≡ table .n) × (start ≡ primaryStart (table .plan) (now counts)) × (start ≤ table .n) × Going (greedyOf table (now counts) (now words) (now flags) (table .n) (table .n - before) (now marks) (now order) before) table (now counts) (now words) (now flags) (now marks) (now order) before start ⌝ }
+    requires { ⌜ Valid table (now counts) (now words) (now marks) × (length (now flags) ≡ table .n) × (start ≡ primaryStart (table .plan) (now counts)) × (start ≤ table .n) × Early start (now marks) × Going (greedyOf table (now counts) (now words) (now flags) (table .n) (table .n - before) (now marks) (now order) before) table (now counts) (now words) (now flags) (now marks) (now order) before start ⌝ }
     ensures { λ r. ⌜ taken (now (marks .exit)) (now (order .exit)) r ≡ greedyOf table (now (counts .entry)) (now (words .entry)) (now (flags .entry)) (table .n) (table .n - before) (now (marks .entry)) (now (order .entry)) before ⌝ }
 {
-    let n = table.n;
-    let mut placed = before;
-    while placed < n {
-        match next_ready(table, counts, words, flags, marks, placed, start) {
-            First::At { slot } => {
-                marks[slot as usize] = 1;
-                order[placed as usize] = slot;
-                placed += 1;
-            }
-            First::Nothing => {
-                return placed;
-            }
-        }
-    }
+    judge(table, counts, words, flags, marks, start);
+    stow(marks, start, table.n);
+    let placed = take_live(table, counts, words, flags, marks, order, start, before);
+    unstow(marks, start);
     placed
 }

@@ -1,11 +1,10 @@
 // Which slots are ready: an insertion of their identity into the placed part would be answered as inserted at that very slot. The
 // placed part is the table with the marks for flags, so this is the search of the funnel.
 ghost use mathlib.Core.Path.{_≡_};
-ghost use Prim.Native.Nat.{_-_, _≤_, _<_};
+ghost use Prim.Native.Nat.{_<_};
 ghost use lib.ListN.{length};
-ghost use Rattle.audit.specs.Greedy.{firstFrom, ready};
+ghost use Rattle.audit.specs.Greedy.{ready};
 ghost use Rattle.funnel.specs.Valid.{Valid};
-use crate::slots::First;
 use funnel::insert::slot_of;
 use funnel::search::find;
 use funnel::table::FunnelTable;
@@ -52,28 +51,4 @@ pub fn is_ready(
             return false;
         }
     }
-}
-
-// The smallest ready slot from one on.
-pub fn next_ready(
-    table: FunnelTable,
-    counts: &[u64; 118],
-    words: &[u64],
-    flags: &[u8],
-    marks: &[u8],
-    placed: u64,
-    start: u64,
-) -> First
-    requires { ⌜ Valid table (now counts) (now words) (now marks) × (length (now flags) ≡ table .n) × (start ≤ table .n) ⌝ }
-    ensures { λ r. ⌜ r ≡ firstFrom (ready table (now (counts .entry)) (now (words .entry)) (now (flags .entry)) (now (marks .entry)) placed) start (table .n - start) ⌝ }
-{
-    let n = table.n;
-    let mut slot = start;
-    while slot < n {
-        if is_ready(table, counts, words, flags, marks, placed, slot) {
-            return First::At { slot };
-        }
-        slot += 1;
-    }
-    First::Nothing
 }

@@ -16,6 +16,39 @@ use Rattle.funnel.specs.Search.{searchOf, findOf}
 use Rattle.funnel.specs.SearchLaws.{resume, search-join, search-full}
 use Rattle.funnel.specs.Valid.{Valid, SpecialRoom}
 
+-- room for the special slots, with some probes made before
+module _ {table : FunnelTable} {counts words flags : List ℕ} (valid : Valid table counts words flags) (j : ℕ) (few : j ≤ 4294967296) where
+  pub primary-room-of : SpecialRoom table (table .n - table .plan .«special_len») (table .plan .«special_primary_len») (length words) (length flags) j
+  primary-room-of =
+      let f = plan-facts (valid .planned) in
+      record {
+        within = omega arith;
+        same = omega arith;
+        small = omega arith;
+        cap = omega arith;
+        primary = omega arith;
+        fallback = omega arith;
+        loglog = omega arith;
+        width = omega arith;
+        before = omega arith;
+      }
+
+  pub fallback-room-of : SpecialRoom table (table .n - table .plan .«special_len» + table .plan .«special_primary_len»)
+      (table .plan .«fallback_bucket_count» * table .plan .«fallback_bucket_width») (length words) (length flags) j
+  fallback-room-of =
+      let f = plan-facts (valid .planned) in
+      record {
+        within = omega arith;
+        same = omega arith;
+        small = omega arith;
+        cap = omega arith;
+        primary = omega arith;
+        fallback = omega arith;
+        loglog = omega arith;
+        width = omega arith;
+        before = omega arith;
+      }
+
 module _ (table : FunnelTable) (counts words flags : List ℕ) (identity : ℕ) where
   abbrev pub levelsPart : Path
   levelsPart = levelsFrom (table .plan) counts (table .seed) (table .«word_cap») identity 0 (table .plan .alpha)
@@ -41,20 +74,7 @@ module _ (table : FunnelTable) (counts words flags : List ℕ) (identity : ℕ) 
           omega (arith, search-full words flags identity levelsPart 0 j (sym is-r ∙ past))
 
       pub primary-ready : SpecialRoom table (table .n - table .plan .«special_len») (table .plan .«special_primary_len») (length words) (length flags) j
-      primary-ready =
-          let f = plan-facts (valid .planned) in
-          let m = levels-most in
-          record {
-            within = omega arith;
-            same = omega arith;
-            small = omega arith;
-            cap = omega arith;
-            primary = omega arith;
-            fallback = omega arith;
-            loglog = omega arith;
-            width = omega arith;
-            before = omega arith;
-          }
+      primary-ready = let m = levels-most in primary-room-of valid j (omega arith)
 
       module _ (q : Search) (is-q : q ≡ searchOf words flags identity (primaryPart (table .n - table .plan .«special_len»)) j) where
         pub find-primary : findOf table counts words flags identity ≡ resume words flags identity (fallbackPart (fallbackStart (table .plan) counts)) q
@@ -71,17 +91,7 @@ module _ (table : FunnelTable) (counts words flags : List ℕ) (identity : ℕ) 
               let l = levels-most in
               let p = primary-length (table .plan) counts (table .seed) (table .«word_cap») identity (table .n - table .plan .«special_len») 0 (table .plan .«loglog_ceiling») in
               let s = search-full words flags identity (primaryPart (table .n - table .plan .«special_len»)) j m (sym is-q ∙ past-q) in
-              record {
-                within = omega arith;
-                same = omega arith;
-                small = omega arith;
-                cap = omega arith;
-                primary = omega arith;
-                fallback = omega arith;
-                loglog = omega arith;
-                width = omega arith;
-                before = omega arith;
-              }
+              fallback-room-of valid m (omega arith)
 
           pub find-fallback : (x : Search) → x ≡ searchOf words flags identity (fallbackPart (table .n - table .plan .«special_len» + table .plan .«special_primary_len»)) m
               → x ≡ findOf table counts words flags identity

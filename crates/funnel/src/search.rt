@@ -53,7 +53,7 @@ pub fn find(
 }
 
 // "per level one bucket, slots in order"
-fn search_levels(
+pub fn search_levels(
     table: FunnelTable,
     counts: &[u64; 118],
     words: &[u64],
@@ -157,7 +157,7 @@ fn draw_level(key: FunnelKey, counts: &[u64; 118], alpha: u64, level: u64, cap: 
 }
 
 // "then g primary probes", among the primary slots from `start` on, with some probes made before
-fn search_primary(
+pub fn search_primary(
     table: FunnelTable,
     start: u64,
     words: &[u64],
@@ -198,7 +198,7 @@ fn search_primary(
 }
 
 // "then buckets A and B both sampled, slot by slot, A before B", among the fallback buckets from `start` on
-fn search_fallback(
+pub fn search_fallback(
     table: FunnelTable,
     start: u64,
     words: &[u64],

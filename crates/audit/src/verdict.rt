@@ -1,0 +1,108 @@
+// The verdicts on the special slots. Once no ordinary slot is left to take, the ordinary part of a special member's path is read for the
+// last time: only a member whose search goes on past it can ever be ready. The verdicts are kept in the ordinary marks, above
+// their lowest bit, since the searches along the special slots do not read these.
+ghost use mathlib.Core.Path.{_≡_};
+ghost use Prim.Native.Nat.{_*_, _≤_, _<_};
+ghost use lib.ListN.{length};
+ghost use Rattle.audit.specs.Special.{live};
+ghost use Rattle.audit.specs.Verdicts.{bare, Judged, Stowed};
+ghost use Rattle.funnel.specs.Path.{primaryStart};
+ghost use Rattle.funnel.specs.Valid.{Valid};
+use funnel::search::search_levels;
+use funnel::table::FunnelTable;
+use funnel::table::Search;
+use probe::word::funnel_key;
+
+// Gives a verdict on each special slot, in its own mark: 1 for a slot that is live.
+pub fn judge(
+    table: FunnelTable,
+    counts: &[u64; 118],
+    words: &[u64],
+    flags: &[u8],
+    marks: &mut [u8],
+    start: u64,
+)
+    requires { ⌜ Valid table (now counts) (now words) (now marks) × (length (now flags) ≡ table .n) × (start ≡ primaryStart (table .plan) (now counts)) ⌝ }
+    ensures { λ r. ⌜ Judged (live table (now (counts .entry)) (now (words .entry)) (now (flags .entry)) (now (marks .entry))) start (table .n) (now (marks .entry)) (now (marks .exit)) ⌝ }
+{
+    let n = table.n;
+    let mut slot = start;
+    while slot < n {
+        let at = slot;
+        slot += 1;
+        if is_live(table, counts, words, flags, marks, at) {
+            marks[at as usize] = 1;
+        } else {
+            marks[at as usize] = 0;
+        }
+    }
+}
+
+// Whether a slot is occupied, and its identity's search goes on past the ordinary slots.
+fn is_live(
+    table: FunnelTable,
+    counts: &[u64; 118],
+    words: &[u64],
+    flags: &[u8],
+    marks: &[u8],
+    slot: u64,
+) -> bool
+    requires { ⌜ Valid table (now counts) (now words) (now marks) × (length (now flags) ≡ table .n) × (slot < table .n) ⌝ }
+    ensures { λ r. ⌜ r ≡ live table (now (counts .entry)) (now (words .entry)) (now (flags .entry)) (now (marks .entry)) slot ⌝ }
+{
+    let s = slot as usize;
+    if flags[s] == 0 {
+        return false;
+    }
+    let identity = words[s];
+    let key = funnel_key(table.seed, identity);
+    match search_levels(table, counts, words, marks, identity, key) {
+        Search::Vacant {
+            probes: _,
+            place: _,
+        } => {
+            return false;
+        }
+        Search::Hit {
+            probes: _,
+            place: _,
+        } => {
+            return false;
+        }
+        Search::Full { probes: _ } => {
+            return true;
+        }
+        Search::Range(_) => {
+            return false;
+        }
+    }
+}
+
+// Moves the verdicts from the special marks to the ordinary ones, and clears the special marks.
+pub fn stow(marks: &mut [u8], start: u64, n: u64)
+    requires { ⌜ (length (now marks) ≡ n) × (start ≤ n) × (n ≤ 2 * start) ⌝ }
+    ensures { λ r. ⌜ Stowed start n (now (marks .entry)) (now (marks .exit)) ⌝ }
+{
+    let mut slot = start;
+    while slot < n {
+        let at = slot - start;
+        let verdict = marks[slot as usize] % 2;
+        let mark = marks[at as usize] % 2;
+        marks[slot as usize] = 0;
+        marks[at as usize] = mark + verdict * 2;
+        slot += 1;
+    }
+}
+
+// Takes the verdicts off the ordinary marks.
+pub fn unstow(marks: &mut [u8], start: u64)
+    requires { ⌜ start ≤ length (now marks) ⌝ }
+    ensures { λ r. ⌜ now (marks .exit) ≡ bare start (now (marks .entry)) ⌝ }
+{
+    let mut slot = 0;
+    while slot < start {
+        let s = slot as usize;
+        marks[s] = marks[s] % 2;
+        slot += 1;
+    }
+}
