@@ -90,7 +90,7 @@ fn search_levels(
 }
 
 // The draw of a level's bucket, where there is such a level.
-fn draw_level(key: FunnelKey, counts: &[u64; 118], alpha: u64, level: u64, cap: u64) -> Drawn
+pub fn draw_level(key: FunnelKey, counts: &[u64; 118], alpha: u64, level: u64, cap: u64) -> Drawn
     requires { ⌜ Drawable alpha cap (now counts) ⌝ }
     ensures { λ r. ⌜ DrawnAhead key (now (counts .entry)) alpha cap level r ⌝ }
 {
@@ -174,7 +174,7 @@ fn search_fallback(
 }
 
 // An index below upper, by the key of an identity: the Rust's `sample`.
-fn sample(key: FunnelKey, domain: Domain, probe: u64, upper: u64, cap: u64) -> Drawn
+pub fn sample(key: FunnelKey, domain: Domain, probe: u64, upper: u64, cap: u64) -> Drawn
     requires { ⌜ (levelOf domain < 2 ^ 46) × (probe < 256) × (0 < upper) × (cap ≤ 256) ⌝ }
     ensures { λ r. ⌜ r ≡ drawOf (key .inner) (key .outer) (funnelCounterOf domain probe 0) upper cap ⌝ }
 {
