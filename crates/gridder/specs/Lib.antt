@@ -1,0 +1,6 @@
+pub mod Lent
+pub mod LentLaws
+pub mod Valid
+pub mod State
+pub mod Answer
+pub mod ValidLaws
