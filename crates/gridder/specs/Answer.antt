@@ -66,7 +66,7 @@ foundAt = 56
 
 -- ---- what the calls say
 
-abbrev pub placeFields : Place → List Field
+unfoldable pub placeFields : Place → List Field
 placeFields (place.Ordinary level bucket i slot) =
     field kindAt 1 ∷ field levelAt level ∷ field bucketAt bucket ∷ field withinAt i ∷ field slotAt (slot .0) ∷ []
 placeFields (place.SpecialPrimary s slot) = field kindAt 2 ∷ field withinAt s ∷ field slotAt (slot .0) ∷ []

@@ -1,18 +1,18 @@
 -- Laws of words lent as bytes. Assumes nothing.
 use mathlib.Core.Bool.{Bool, true, false}
-use mathlib.Core.List.{List, [], _∷_}
+use mathlib.Core.List.{List, [], _∷_, _++_, append-assoc, append-nil}
 use mathlib.Core.Logic.{_⊎_, inl, inr}
 use mathlib.Core.Path.{_≡_, refl, ap, sym, _∙_}
 use Prim.Native.Nat.{ℕ, zero, suc, _+_, _*_, _/_, _%_, _^_, _<_, _≤_}
 use native.Mathlib.Omega.{arith}
 use lib.Dec.{eqb, ltb}
-use lib.ListN.{length, getD, set, replicate, length-set, length-replicate, getD-replicate}
-use lib.Seq.{sets, length-sets, getD-set-same, getD-set-other, ext-getD}
+use lib.ListN.{length, getD, take, set, replicate, length-set, length-replicate, getD-replicate, length-append}
+use lib.Seq.{sets, length-sets, take-all, take-suc, length-take-le, take-suc-set, getD-set-same, getD-set-other, ext-getD}
 use borrow.Author.Tests.{eq-eqb, ne-eqb, eqb-true, ltb-true, ltb-false}
 use Rattle.words.specs.Bytes.{bytesOf, numAt, Bytes}
-use Rattle.words.specs.BytesLaws.{length-bytes, num-sets, num-stored, num-byte, num-zeros}
+use Rattle.words.specs.BytesLaws.{sets-append, length-bytes, num-sets, num-stored, num-byte, num-zeros}
 use Rattle.words.specs.Pick.{pick}
-use Rattle.gridder.specs.Lent.{wordsFrom, wordsOf, wordCount}
+use Rattle.gridder.specs.Lent.{wordsFrom, wordsOf, wordCount, lent}
 
 -- ---- lengths and entries
 
@@ -40,6 +40,27 @@ from-at b at (suc k) (suc i) h =
 pub words-at : (b : List ℕ) (i : ℕ) → i * 8 < length b → getD (wordsOf b) i 0 ≡ numAt b (i * 8) 8
 unfolding wordsOf
 words-at b i h = let e : 0 + i * 8 ≡ i * 8 = omega arith in rw e at (from-at b 0 ((length b + 7) / 8) i (omega arith))
+
+-- one word more at the end
+pub from-more : (b : List ℕ) (at k : ℕ) → wordsFrom b at (k + 1) ≡ wordsFrom b at k ++ (numAt b (at + k * 8) 8 ∷ [])
+unfolding wordsFrom
+from-more b at zero = let e : at + 0 * 8 ≡ at = omega arith in rw e
+from-more b at (suc k) =
+    let e : at + suc k * 8 ≡ at + 8 + k * 8 = omega arith in
+    let f : suc k + 1 ≡ suc (k + 1) = omega arith in
+    rw (e, f) (ap (λ (l : List ℕ). numAt b at 8 ∷ l) (from-more b (at + 8) k))
+
+-- words that are read one by one into a list
+module _ (b : List ℕ) (at : ℕ) (words : List ℕ) where
+  pub filled-more : (i x : ℕ) → i < length words → x ≡ numAt b (at + i * 8) 8 → take i words ≡ wordsFrom b at i → take (i + 1) (set words i x) ≡ wordsFrom b at (i + 1)
+  filled-more i x h e t =
+      let f : i + 1 ≡ suc i = omega arith in
+      ap (λ (k : ℕ). take k (set words i x)) f ∙ take-suc-set words i x h ∙ rw (t, e) (sym (from-more b at i))
+
+  pub filled-all : (k i : ℕ) → length words ≡ k → k ≤ i → i ≤ k → take i words ≡ wordsFrom b at i → words ≡ wordsFrom b at k
+  filled-all k i l g h t =
+      let e : i ≡ k = omega arith in
+      sym (take-all i words (omega arith)) ∙ t ∙ ap (wordsFrom b at) e
 
 -- ---- a word that is stored
 
@@ -104,6 +125,36 @@ words-unique a b f g l e = ext-getD 0 a b l same
         let s : i / 8 * 8 + i % 8 ≡ i = omega arith in
         let m : getD a (i / 8 * 8 + i % 8) 0 ≡ getD b (i / 8 * 8 + i % 8) 0 = num-byte a b f g (i / 8 * 8) 8 w (i % 8) (omega arith) in
         rw s at m
+
+-- ---- words as bytes
+
+pub lent-append : (a b : List ℕ) → lent (a ++ b) ≡ lent a ++ lent b
+unfolding lent
+lent-append [] b = refl
+lent-append (x ∷ a) b = rw (lent-append a b) (sym (append-assoc (bytesOf 8 x) (lent a) (lent b)))
+
+pub length-lent : (a : List ℕ) → length (lent a) ≡ length a * 8
+unfolding lent
+length-lent [] = refl
+length-lent (x ∷ a) = length-append (bytesOf 8 x) (lent a) ∙ rw (length-bytes 8 x, length-lent a) (omega arith)
+
+lent-one : (x : ℕ) → lent (x ∷ []) ≡ bytesOf 8 x
+unfolding lent
+lent-one x = append-nil (bytesOf 8 x)
+
+-- words that are stored one by one
+module _ (out : List ℕ) (at : ℕ) (words : List ℕ) where
+  pub storing-more : (i : ℕ) (now after : List ℕ) → i < length words → now ≡ sets out at (lent (take i words)) → after ≡ sets now (at + i * 8) (bytesOf 8 (getD words i 0))
+      → after ≡ sets out at (lent (take (i + 1) words))
+  storing-more i now after h n a =
+      let f : i + 1 ≡ suc i = omega arith in
+      let l : length (lent (take i words)) ≡ i * 8 = length-lent (take i words) ∙ ap (λ (k : ℕ). k * 8) (length-take-le i words (omega arith)) in
+      let t : lent (take (i + 1) words) ≡ lent (take i words) ++ bytesOf 8 (getD words i 0) =
+      ap (λ (k : ℕ). lent (take k words)) f ∙ ap lent (take-suc words i 0 h) ∙ lent-append (take i words) _ ∙ ap (λ (r : List ℕ). lent (take i words) ++ r) (lent-one (getD words i 0)) in
+      a ∙ rw (n, t, sets-append, l)
+
+  pub storing-all : (i : ℕ) (now : List ℕ) → length words ≤ i → now ≡ sets out at (lent (take i words)) → now ≡ sets out at (lent words)
+  storing-all i now h n = n ∙ ap (λ (r : List ℕ). sets out at (lent r)) (take-all i words h)
 
 -- ---- how many entries bytes lend
 

@@ -4,3 +4,5 @@ pub mod Valid
 pub mod State
 pub mod Answer
 pub mod ValidLaws
+pub mod StateLaws
+pub mod AnswerLaws
