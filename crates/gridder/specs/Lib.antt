@@ -6,3 +6,6 @@ pub mod Answer
 pub mod ValidLaws
 pub mod StateLaws
 pub mod AnswerLaws
+pub mod Calls
+pub mod CallLaws
+pub mod PutLaws
