@@ -147,7 +147,7 @@ pub fn table_gate(table: FunnelTable, counts: &[u64; 118], words: u64, flags: u6
 }
 
 // The tests of a placement.
-fn place_gate(
+pub fn place_gate(
     table: FunnelTable,
     counts: &[u64; 118],
     words: u64,
@@ -169,7 +169,7 @@ fn place_gate(
 }
 
 // The tests of an opening.
-fn open_gate(n: u64, e: u32, cap: u64, words: u64, flags: u64) -> Gated
+pub fn open_gate(n: u64, e: u32, cap: u64, words: u64, flags: u64) -> Gated
     ensures { λ r. ⌜ r ≡ openGate n e cap words flags ⌝ }
 {
     match funnel_gate(n, e) {

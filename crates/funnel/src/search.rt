@@ -145,7 +145,7 @@ fn first_bucket(key: FunnelKey, counts: &[u64; 118], alpha: u64, level: u64) -> 
 }
 
 // The draw of a level's bucket, where there is such a level.
-fn draw_level(key: FunnelKey, counts: &[u64; 118], alpha: u64, level: u64, cap: u64) -> Drawn
+pub fn draw_level(key: FunnelKey, counts: &[u64; 118], alpha: u64, level: u64, cap: u64) -> Drawn
     requires { ⌜ Drawable alpha cap (now counts) ⌝ }
     ensures { λ r. ⌜ DrawnAhead key (now (counts .entry)) alpha cap level r ⌝ }
 {
@@ -229,7 +229,7 @@ pub fn search_fallback(
 }
 
 // An index below upper, by the key of an identity: the Rust's `sample`.
-fn sample(key: FunnelKey, domain: Domain, probe: LogicalProbe, upper: u64, cap: u64) -> Drawn
+pub fn sample(key: FunnelKey, domain: Domain, probe: LogicalProbe, upper: u64, cap: u64) -> Drawn
     requires { ⌜ (levelOf domain < 2 ^ 46) × (probe .0 < 256) × (0 < upper) × (cap ≤ 256) ⌝ }
     ensures { λ r. ⌜ r ≡ drawOf (key .inner) (key .outer) (funnelCounterOf domain (probe .0) 0) upper cap ⌝ }
 {

@@ -1,14 +1,15 @@
 -- Laws of numbers as bytes.
 -- Assumes nothing.
+use mathlib.Core.Logic.{_⊎_, inl, inr, ⊎-elim}
 use mathlib.Core.Path.{_≡_, refl, ap, sym, _∙_}
 use mathlib.Core.List.{List, [], _∷_, _++_, append-assoc}
 use Prim.Native.Nat.{ℕ, zero, suc, _+_, _*_, _/_, _%_, _^_, _<_, _≤_}
 use native.Mathlib.Omega.{arith}
 use native.Mathlib.Nat.{div-div-eq-div-mul, mod-one, pow-suc, one-le-pow}
-use lib.ListN.{length, getD, take, drop, set, length-append}
+use lib.ListN.{length, getD, take, drop, set, replicate, length-append}
 use lib.Arith.{mod-mul}
 use lib.Dec.{lit<}
-use lib.Seq.{sets, drop-cons, getD-append-seam, append-snoc}
+use lib.Seq.{sets, sets-eq, drop-cons, getD-append-seam, getD-set-other, append-snoc, length-take-le}
 use Rattle.words.specs.Bytes.{bytesOf, numAt, Bytes}
 
 -- stores of a list and then of another are stores of both
@@ -68,3 +69,58 @@ bytes-num b h (suc k) at f =
     let m : (getD b at 0 + 256 * numAt b (suc at) k) % 256 ≡ getD b at 0 = omega arith in
     let d : (getD b at 0 + 256 * numAt b (suc at) k) / 256 ≡ numAt b (suc at) k = omega arith in
     rw (drop-cons b at 0 l, m, d) (ap (λ (t : List ℕ). getD b at 0 ∷ t) (bytes-num b h k (suc at) (omega arith)))
+
+-- ---- numbers in bytes of which some are stored anew
+
+-- a store outside a number's bytes leaves the number
+pub num-set : (b : List ℕ) (j x at k : ℕ) → (j < at) ⊎ (at + k ≤ j) → numAt (set b j x) at k ≡ numAt b at k
+unfolding numAt
+num-set b j x at zero h = refl
+num-set b j x at (suc k) h =
+    let n : at ≡ j → ⊥ = λ e. ⊎-elim (λ l. omega arith) (λ l. omega arith) h in
+    let m : (j < suc at) ⊎ (suc at + k ≤ j) = ⊎-elim (λ l. inl (omega arith)) (λ l. inr (omega arith)) h in
+    rw (getD-set-other b j at x 0 n, num-set b j x (suc at) k m)
+
+pub num-sets : (vs b : List ℕ) (j at k : ℕ) → (j + length vs ≤ at) ⊎ (at + k ≤ j) → numAt (sets b j vs) at k ≡ numAt b at k
+num-sets [] b j at k h = refl
+num-sets (x ∷ vs) b j at k h =
+    let m : (suc j + length vs ≤ at) ⊎ (at + k ≤ suc j) = ⊎-elim (λ l. inl (omega arith)) (λ l. inr (omega arith)) h in
+    let n : (j < at) ⊎ (at + k ≤ j) = ⊎-elim (λ l. inl (omega arith)) (λ l. inr l) h in
+    num-sets vs (set b j x) (suc j) at k m ∙ num-set b j x at k n
+
+-- a number that was stored is read back
+pub num-stored : (b : List ℕ) (at k x : ℕ) → at + k ≤ length b → numAt (sets b at (bytesOf k x)) at k ≡ x % 256 ^ k
+num-stored b at k x h =
+    let l : length (bytesOf k x) ≡ k = length-bytes k x in
+    let t : length (take at b) ≡ at = length-take-le at b (omega arith) in
+    let e : sets b at (bytesOf k x) ≡ take at b ++ (bytesOf k x ++ drop (at + k) b) = sets-eq (bytesOf k x) b at (rw l h) ∙ rw (l, append-assoc) in
+    let n : numAt (take at b ++ (bytesOf k x ++ drop (at + k) b)) (length (take at b)) k ≡ x % 256 ^ k = num-bytes (take at b) k x (drop (at + k) b) in
+    rw e (rw t at n)
+
+-- the same number in the same place has the same bytes
+pub num-byte : (a b : List ℕ) → Bytes a → Bytes b → (at k : ℕ) → numAt a at k ≡ numAt b at k → (j : ℕ) → j < k → getD a (at + j) 0 ≡ getD b (at + j) 0
+unfolding numAt
+num-byte a b f g at zero e j h = absurd (omega arith)
+num-byte a b f g at (suc k) e zero h =
+    let x = f .byte at in
+    let y = g .byte at in
+    let z : at + 0 ≡ at = omega arith in
+    let w : getD a at 0 ≡ getD b at 0 = omega arith in
+    rw z w
+num-byte a b f g at (suc k) e (suc j) h =
+    let x = f .byte at in
+    let y = g .byte at in
+    let m : numAt a (suc at) k ≡ numAt b (suc at) k = omega arith in
+    let z : at + suc j ≡ suc at + j = omega arith in
+    rw z (num-byte a b f g (suc at) k m j (omega arith))
+
+-- zeros make zero
+pub getD-zeros : (n i : ℕ) → getD (replicate {A = ℕ} n 0) i 0 ≡ 0
+getD-zeros zero i = refl
+getD-zeros (suc n) zero = refl
+getD-zeros (suc n) (suc i) = getD-zeros n i
+
+pub num-zeros : (n at k : ℕ) → numAt (replicate n 0) at k ≡ 0
+unfolding numAt
+num-zeros n at zero = refl
+num-zeros n at (suc k) = rw (getD-zeros n at, num-zeros n (suc at) k)

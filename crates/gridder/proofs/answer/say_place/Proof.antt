@@ -1,0 +1,97 @@
+-- `gridder::answer::say_place` meets its contract. Case by case. Assumes nothing.
+use Rattle.gridder.specs.Answer.{stored, placeFields}
+use borrow.Author.Needs.{needs}
+use Rattle.gridder.proofs.answer.say_place.Statement.{statement}
+use Rattle.gridder.proofs.answer.say_place.Tie as tie
+
+enum-known-place : tie.Need-enum-known-place
+enum-known-place c = search needs
+
+write64-requires : tie.Need-write64-requires
+write64-requires c κs = search needs
+
+write64-requires-2 : tie.Need-write64-requires-2
+write64-requires-2 c κs = search needs
+
+write64-requires-3 : tie.Need-write64-requires-3
+write64-requires-3 c κs = search needs
+
+write64-requires-4 : tie.Need-write64-requires-4
+write64-requires-4 c κs = search needs
+
+write64-requires-5 : tie.Need-write64-requires-5
+write64-requires-5 c κs = search needs
+
+enum-known-place-2 : tie.Need-enum-known-place-2
+enum-known-place-2 c = search needs
+
+write64-requires-6 : tie.Need-write64-requires-6
+write64-requires-6 c κs = search needs
+
+write64-requires-7 : tie.Need-write64-requires-7
+write64-requires-7 c κs = search needs
+
+write64-requires-8 : tie.Need-write64-requires-8
+write64-requires-8 c κs = search needs
+
+enum-known-place-3 : tie.Need-enum-known-place-3
+enum-known-place-3 c = search needs
+
+write64-requires-9 : tie.Need-write64-requires-9
+write64-requires-9 c κs = search needs
+
+write64-requires-10 : tie.Need-write64-requires-10
+write64-requires-10 c κs = search needs
+
+write64-requires-11 : tie.Need-write64-requires-11
+write64-requires-11 c κs = search needs
+
+write64-requires-12 : tie.Need-write64-requires-12
+write64-requires-12 c κs = search needs
+
+same-length : tie.Need-same-length
+same-length c = search needs
+
+returns : tie.Need-returns
+unfolding stored placeFields
+returns c = rw (c .before .before .before .before .before .before .before .before .before .before .before .before .before .before .before .before .before .before .before .before .before .place .given .1) cc
+
+same-length-2 : tie.Need-same-length-2
+same-length-2 c = search needs
+
+returns-2 : tie.Need-returns-2
+unfolding stored placeFields
+returns-2 c = rw (c .before .before .before .before .before .before .before .before .before .before .before .before .before .place2 .given .1) cc
+
+same-length-3 : tie.Need-same-length-3
+same-length-3 c = search needs
+
+returns-3 : tie.Need-returns-3
+unfolding stored placeFields
+returns-3 c = rw (c .before .before .before .before .before .before .before .before .before .before .before .before .before .before .before .before .before .place3 .given .1) cc
+
+pub say-place-spec : {M : Type 1} → statement M
+say-place-spec =
+    tie.close
+    (tie.spec
+    enum-known-place
+    write64-requires
+    write64-requires-2
+    write64-requires-3
+    write64-requires-4
+    write64-requires-5
+    enum-known-place-2
+    write64-requires-6
+    write64-requires-7
+    write64-requires-8
+    enum-known-place-3
+    write64-requires-9
+    write64-requires-10
+    write64-requires-11
+    write64-requires-12
+    same-length
+    returns
+    same-length-2
+    returns-2
+    same-length-3
+    returns-3)

@@ -1,0 +1,58 @@
+-- Laws of the answer block. Assumes nothing.
+use mathlib.Core.List.{List, [], _∷_}
+use mathlib.Core.Path.{_≡_, sym, _∙_}
+use Prim.Native.Nat.{ℕ}
+use lib.ListN.{length, replicate}
+use lib.Seq.{sets}
+use borrow.Author.Tests.{eq-eqb, ne-eqb}
+use Rattle.words.specs.Bytes.{bytesOf}
+use Rattle.words.specs.declared.place.Place.{Place}
+use Rattle.funnel.specs.Calls.{searchReport, insertionReport}
+use Rattle.funnel.specs.declared.table.Search.{Search}
+use Rattle.funnel.specs.declared.table.Insertion.{Insertion}
+use Rattle.gridder.specs.Answer.{answerLength, Field, field, stored, says, placeFields, searchFields, insertionFields, Reply, reply, saying}
+
+pub reply-is : (m n : ℕ) (a b : List ℕ) → m ≡ n → a ≡ b → reply m a ≡ reply n b
+reply-is m n a b e f = rw (e, f)
+
+-- a block of zeros says nothing
+pub says-none : (n : ℕ) → n ≡ answerLength → replicate n 0 ≡ says []
+unfolding says stored
+says-none n e = rw e
+
+-- a block is written where it has its length, else it stays
+module _ (before : List ℕ) (fields : List Field) where
+  pub saying-stays : (length before ≡ answerLength → ⊥) → before ≡ saying before fields
+  unfolding saying
+  saying-stays n = sym (rw (ne-eqb _ _ n))
+
+  pub saying-says : length before ≡ answerLength → says fields ≡ saying before fields
+  unfolding saying
+  saying-says e = sym (rw (eq-eqb _ _ e))
+
+-- ---- a block that was zeroed and then written
+
+module _ (n : ℕ) (zeros : List ℕ) (long : n ≡ answerLength) (cleared : zeros ≡ replicate n 0) where
+  pub said-one : (at x : ℕ) (a : List ℕ) → a ≡ sets zeros at (bytesOf 8 x) → a ≡ says (field at x ∷ [])
+  unfolding says stored
+  said-one at x a e = e ∙ rw (cleared, long)
+
+  pub said-place : (at x : ℕ) (p : Place) (a b : List ℕ) → a ≡ sets zeros at (bytesOf 8 x) → b ≡ stored a (placeFields p) → b ≡ says (field at x ∷ placeFields p)
+  unfolding says stored
+  said-place at x p a b e f = f ∙ rw (e, cleared, long)
+
+  pub said-two : (at x to y : ℕ) (p : Place) (a b d : List ℕ) → a ≡ sets zeros at (bytesOf 8 x) → b ≡ sets a to (bytesOf 8 y) → d ≡ stored b (placeFields p)
+      → d ≡ says (field at x ∷ field to y ∷ placeFields p)
+  unfolding says stored
+  said-two at x to y p a b d e f g = g ∙ rw (f, e, cleared, long)
+
+-- ---- what a search and an insertion say, by their answer
+
+module _ (found : Search) (n : ℕ) (a : List ℕ) where
+  pub search-says : (x : Search) → found ≡ x → n ≡ searchReport x .number → a ≡ says (searchFields x) → reply n a ≡ reply (searchReport found .number) (says (searchFields found))
+  search-says x e p q = rw (e, p, q)
+
+module _ (done : Insertion) (n : ℕ) (a : List ℕ) where
+  pub insertion-says : (x : Insertion) → done ≡ x → n ≡ insertionReport x .number → a ≡ says (insertionFields x)
+      → reply n a ≡ reply (insertionReport done .number) (says (insertionFields done))
+  insertion-says x e p q = rw (e, p, q)

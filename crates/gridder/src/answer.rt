@@ -1,0 +1,144 @@
+// The answer block: where each number of an answer lies in it (see lib.rt), written.
+ghost use mathlib.Core.List.{[]};
+ghost use mathlib.Core.Path.{_≡_};
+ghost use lib.ListN.{length};
+ghost use Rattle.refusal.specs.Table.{numberOf, nameOf};
+ghost use Rattle.funnel.specs.Calls.{searchReport, insertionReport};
+ghost use Rattle.gridder.specs.Answer.{stored, says, saying, placeFields, searchFields, insertionFields, reply};
+use funnel::table::Insertion;
+use funnel::table::Search;
+use refusal::Gate;
+use refusal::Name;
+use refusal::gate_name;
+use refusal::number;
+use words::bytes::write64;
+use words::clear::clear_bytes;
+use words::place::Place;
+
+// "a lent 128-byte block"
+pub const ANSWER_LENGTH: usize = 128;
+
+const PROBES: usize = 0;
+
+const KIND: usize = 8;
+
+const LEVEL: usize = 16;
+
+const BUCKET: usize = 24;
+
+const WITHIN: usize = 32;
+
+const SLOT: usize = 40;
+
+const WORDS: usize = 48;
+
+const FOUND: usize = 56;
+
+// A refusal of the gate, which has nothing to say but its number.
+pub fn say_gate(answer: &mut [u8], gate: Gate) -> u64
+    ensures { λ r. ⌜ reply r (now (answer .exit)) ≡ reply (numberOf (nameOf gate)) (saying (now (answer .entry)) []) ⌝ }
+{
+    let refused = number(gate_name(gate));
+    if answer.len() != ANSWER_LENGTH {
+        return refused;
+    }
+    clear_bytes(answer);
+    refused
+}
+
+// What a search found.
+pub fn say_search(answer: &mut [u8], found: Search) -> u64
+    requires { ⌜ length (now answer) ≡ 128 ⌝ }
+    ensures { λ r. ⌜ reply r (now (answer .exit)) ≡ reply (searchReport found .number) (says (searchFields found)) ⌝ }
+{
+    clear_bytes(answer);
+    match found {
+        Search::Hit { probes, place } => {
+            write64(answer, PROBES, probes);
+            write64(answer, FOUND, 1);
+            say_place(answer, place);
+            0
+        }
+        Search::Vacant { probes, place } => {
+            write64(answer, PROBES, probes);
+            say_place(answer, place);
+            0
+        }
+        Search::Full { probes } => {
+            write64(answer, PROBES, probes);
+            number(Name::Full)
+        }
+        Search::Range(refusal) => {
+            write64(answer, WORDS, refusal.words);
+            number(Name::Range)
+        }
+    }
+}
+
+// What an insertion is answered.
+pub fn say_insertion(answer: &mut [u8], done: Insertion) -> u64
+    requires { ⌜ length (now answer) ≡ 128 ⌝ }
+    ensures { λ r. ⌜ reply r (now (answer .exit)) ≡ reply (insertionReport done .number) (says (insertionFields done)) ⌝ }
+{
+    clear_bytes(answer);
+    match done {
+        Insertion::Inserted { probes, place } => {
+            write64(answer, PROBES, probes);
+            say_place(answer, place);
+            0
+        }
+        Insertion::Range(refusal) => {
+            write64(answer, WORDS, refusal.words);
+            number(Name::Range)
+        }
+        Insertion::Duplicate { probes, place } => {
+            write64(answer, PROBES, probes);
+            say_place(answer, place);
+            number(Name::Duplicate)
+        }
+        Insertion::Exhausted { probes } => {
+            write64(answer, PROBES, probes);
+            number(Name::Exhausted)
+        }
+        Insertion::Full { probes } => {
+            write64(answer, PROBES, probes);
+            number(Name::Full)
+        }
+    }
+}
+
+// A place, over what the block holds.
+fn say_place(answer: &mut [u8], place: Place)
+    requires { ⌜ length (now answer) ≡ 128 ⌝ }
+    ensures { λ r. ⌜ now (answer .exit) ≡ stored (now (answer .entry)) (placeFields place) ⌝ }
+{
+    match place {
+        Place::Ordinary {
+            level,
+            bucket,
+            slot_in_bucket,
+            global_slot,
+        } => {
+            write64(answer, KIND, 1);
+            write64(answer, LEVEL, level);
+            write64(answer, BUCKET, bucket);
+            write64(answer, WITHIN, slot_in_bucket);
+            write64(answer, SLOT, global_slot.0);
+        }
+        Place::SpecialPrimary { slot, global_slot } => {
+            write64(answer, KIND, 2);
+            write64(answer, WITHIN, slot);
+            write64(answer, SLOT, global_slot.0);
+        }
+        Place::SpecialFallback {
+            bucket,
+            slot_in_bucket,
+            global_slot,
+        } => {
+            write64(answer, KIND, 3);
+            write64(answer, BUCKET, bucket);
+            write64(answer, WITHIN, slot_in_bucket);
+            write64(answer, SLOT, global_slot.0);
+        }
+    }
+}

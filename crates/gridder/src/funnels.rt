@@ -1,0 +1,142 @@
+// The exported calls on funnel tables. Each requires nothing.
+ghost use mathlib.Core.Bool.{true};
+ghost use mathlib.Core.Path.{_≡_};
+ghost use Rattle.gridder.specs.Answer.{reply};
+ghost use Prim.Native.Nat.{_+_, _≤_};
+ghost use lib.ListN.{length};
+ghost use Rattle.gridder.specs.Calls.{callGate, searchCall, left, countedIn, insertCall};
+ghost use Rattle.gridder.specs.Lent.{wordsOf};
+ghost use Rattle.gridder.specs.State.{holdsFunnel};
+use crate::answer::ANSWER_LENGTH;
+use crate::answer::say_gate;
+use crate::answer::say_insertion;
+use crate::answer::say_search;
+use crate::lent::word_count;
+use crate::put_bytes::put;
+use crate::state::holds_funnel;
+use crate::state::read_counts;
+use crate::state::table_in;
+use crate::state::write_count;
+use crate::walk_bytes::find;
+use funnel::calls::table_gate;
+use funnel::table::FunnelTable;
+use funnel::table::Insertion;
+use geometry::config::Gated;
+use refusal::Gate;
+use refusal::Name;
+use refusal::number;
+
+// Where an identity is, or the vacancy where it would be put.
+#[no_mangle]
+pub extern "C" fn landovireph_funnel_search(
+    state: &[u8],
+    words: &[u8],
+    flags: &[u8],
+    identity: u64,
+    answer: &mut [u8],
+) -> u64
+    ensures { λ r. ⌜ reply r (now (answer .exit)) ≡ searchCall (now (state .entry)) (now (words .entry)) (now (flags .entry)) identity (now (answer .entry)) ⌝ }
+{
+    if holds_funnel(state) {
+        return search_in(state, words, flags, identity, answer);
+    }
+    number(Name::State)
+}
+
+fn search_in(state: &[u8], words: &[u8], flags: &[u8], identity: u64, answer: &mut [u8]) -> u64
+    requires { ⌜ holdsFunnel (now state) ≡ true ⌝ }
+    ensures { λ r. ⌜ reply r (now (answer .exit)) ≡ searchCall (now (state .entry)) (now (words .entry)) (now (flags .entry)) identity (now (answer .entry)) ⌝ }
+{
+    let table = table_in(state);
+    let mut counts = [0; 118];
+    read_counts(state, &mut counts);
+    let entries = word_count(words.len() as u64);
+    match call_gate(
+        table,
+        &counts,
+        entries,
+        flags.len() as u64,
+        answer.len() as u64,
+    ) {
+        Gated::Refused(g) => say_gate(answer, g),
+        Gated::Passed => say_search(answer, find(table, &counts, words, flags, identity)),
+    }
+}
+
+// The tests 1 to 7 of a table, and the length of the answer block.
+fn call_gate(table: FunnelTable, counts: &[u64; 118], words: u64, flags: u64, answer: u64) -> Gated
+    ensures { λ r. ⌜ r ≡ callGate table (now (counts .entry)) words flags answer ⌝ }
+{
+    match table_gate(table, counts, words, flags) {
+        Gated::Refused(g) => Gated::Refused(g),
+        Gated::Passed => {
+            if answer != 128 {
+                return Gated::Refused(Gate::State);
+            }
+            Gated::Passed
+        }
+    }
+}
+
+// The insertion of an identity.
+#[no_mangle]
+pub extern "C" fn landovireph_funnel_insert(
+    state: &mut [u8],
+    words: &mut [u8],
+    flags: &mut [u8],
+    identity: u64,
+    answer: &mut [u8],
+) -> u64
+    ensures { λ r. ⌜ left r (now (answer .exit)) (now (state .exit)) (wordsOf (now (words .exit))) (now (flags .exit)) ≡ insertCall (now (state .entry)) (now (words .entry)) (now (flags .entry)) identity (now (answer .entry)) ⌝ }
+{
+    if holds_funnel(state) {
+        return insert_in(state, words, flags, identity, answer);
+    }
+    number(Name::State)
+}
+
+fn insert_in(
+    state: &mut [u8],
+    words: &mut [u8],
+    flags: &mut [u8],
+    identity: u64,
+    answer: &mut [u8],
+) -> u64
+    requires { ⌜ holdsFunnel (now state) ≡ true ⌝ }
+    ensures { λ r. ⌜ left r (now (answer .exit)) (now (state .exit)) (wordsOf (now (words .exit))) (now (flags .exit)) ≡ insertCall (now (state .entry)) (now (words .entry)) (now (flags .entry)) identity (now (answer .entry)) ⌝ }
+{
+    let table = table_in(state);
+    let mut counts = [0; 118];
+    read_counts(state, &mut counts);
+    let entries = word_count(words.len() as u64);
+    match call_gate(
+        table,
+        &counts,
+        entries,
+        flags.len() as u64,
+        answer.len() as u64,
+    ) {
+        Gated::Refused(g) => say_gate(answer, g),
+        Gated::Passed => {
+            let count = table.count;
+            let done = put(table, count, &counts, words, flags, identity);
+            count_insertion(state, done, count);
+            say_insertion(answer, done)
+        }
+    }
+}
+
+// The count in a block after an answer: an insertion steps it.
+fn count_insertion(state: &mut [u8], done: Insertion, count: u64)
+    requires { ⌜ (length (now state) ≡ 2048) × (count ≤ 4294967296) ⌝ }
+    ensures { λ r. ⌜ now (state .exit) ≡ countedIn (now (state .entry)) done (count + 1) ⌝ }
+{
+    let Insertion::Inserted {
+        probes: _,
+        place: _,
+    } = done
+    else {
+        return;
+    };
+    write_count(state, count + 1);
+}
