@@ -9,3 +9,4 @@ pub mod AnswerLaws
 pub mod Calls
 pub mod CallLaws
 pub mod PutLaws
+pub mod OpenLaws

@@ -4,8 +4,10 @@ ghost use mathlib.Core.Path.{_≡_};
 ghost use Rattle.gridder.specs.Answer.{reply};
 ghost use Prim.Native.Nat.{_+_, _≤_};
 ghost use lib.ListN.{length};
-ghost use Rattle.gridder.specs.Calls.{callGate, searchCall, left, countedIn, insertCall};
-ghost use Rattle.gridder.specs.Lent.{wordsOf};
+ghost use Rattle.gridder.specs.Calls.{callGate, searchCall, left, countedIn, insertCall, openBlocksGate, openSaying, OpensBy, OpensLent};
+ghost use Rattle.refusal.specs.Table.{numberOf, nameOf};
+ghost use Rattle.geometry.specs.declared.config.Gated.the-variants.{Passed};
+ghost use Rattle.gridder.specs.Lent.{wordsOf, wordCount};
 ghost use Rattle.gridder.specs.State.{holdsFunnel};
 use crate::answer::ANSWER_LENGTH;
 use crate::answer::say_gate;
@@ -13,18 +15,25 @@ use crate::answer::say_insertion;
 use crate::answer::say_search;
 use crate::lent::word_count;
 use crate::put_bytes::put;
+use crate::state::STATE_LENGTH;
 use crate::state::holds_funnel;
 use crate::state::read_counts;
 use crate::state::table_in;
 use crate::state::write_count;
+use crate::state::write_table;
 use crate::walk_bytes::find;
+use funnel::calls::open_gate;
 use funnel::calls::table_gate;
 use funnel::table::FunnelTable;
 use funnel::table::Insertion;
 use geometry::config::Gated;
+use geometry::funnel::FunnelPlanned;
+use geometry::funnel::funnel_plan;
 use refusal::Gate;
 use refusal::Name;
+use refusal::gate_name;
 use refusal::number;
+use words::clear::clear_bytes;
 
 // Where an identity is, or the vacancy where it would be put.
 #[no_mangle]
@@ -51,26 +60,26 @@ fn search_in(state: &[u8], words: &[u8], flags: &[u8], identity: u64, answer: &m
     let mut counts = [0; 118];
     read_counts(state, &mut counts);
     let entries = word_count(words.len() as u64);
-    match call_gate(
-        table,
-        &counts,
-        entries,
-        flags.len() as u64,
-        answer.len() as u64,
-    ) {
+    match call_gate(table, &counts, entries, flags.len() as u64, answer.len()) {
         Gated::Refused(g) => say_gate(answer, g),
         Gated::Passed => say_search(answer, find(table, &counts, words, flags, identity)),
     }
 }
 
 // The tests 1 to 7 of a table, and the length of the answer block.
-fn call_gate(table: FunnelTable, counts: &[u64; 118], words: u64, flags: u64, answer: u64) -> Gated
+fn call_gate(
+    table: FunnelTable,
+    counts: &[u64; 118],
+    words: u64,
+    flags: u64,
+    answer: usize,
+) -> Gated
     ensures { λ r. ⌜ r ≡ callGate table (now (counts .entry)) words flags answer ⌝ }
 {
     match table_gate(table, counts, words, flags) {
         Gated::Refused(g) => Gated::Refused(g),
         Gated::Passed => {
-            if answer != 128 {
+            if answer != ANSWER_LENGTH {
                 return Gated::Refused(Gate::State);
             }
             Gated::Passed
@@ -109,13 +118,7 @@ fn insert_in(
     let mut counts = [0; 118];
     read_counts(state, &mut counts);
     let entries = word_count(words.len() as u64);
-    match call_gate(
-        table,
-        &counts,
-        entries,
-        flags.len() as u64,
-        answer.len() as u64,
-    ) {
+    match call_gate(table, &counts, entries, flags.len() as u64, answer.len()) {
         Gated::Refused(g) => say_gate(answer, g),
         Gated::Passed => {
             let count = table.count;
@@ -139,4 +142,100 @@ fn count_insertion(state: &mut [u8], done: Insertion, count: u64)
         return;
     };
     write_count(state, count + 1);
+}
+
+// A fresh table: words and flags zeroed, its numbers in the state block.
+#[no_mangle]
+pub extern "C" fn landovireph_funnel_open(
+    n: u64,
+    e: u32,
+    seed: u64,
+    word_cap: u64,
+    state: &mut [u8],
+    words: &mut [u8],
+    flags: &mut [u8],
+    answer: &mut [u8],
+) -> u64
+    ensures { λ r. ⌜ OpensLent n e seed «word_cap» (now (state .entry)) (now (words .entry)) (now (flags .entry)) (now (answer .entry)) r (now (state .exit)) (now (words .exit)) (now (flags .exit)) (now (answer .exit)) ⌝ }
+{
+    let entries = word_count(words.len() as u64);
+    let slots = flags.len() as u64;
+    match open_blocks_gate(n, e, word_cap, entries, slots, state.len(), answer.len()) {
+        Gated::Refused(g) => refuse_open(state.len(), answer, g),
+        Gated::Passed => open_in(n, e, seed, word_cap, state, words, flags, answer),
+    }
+}
+
+// The tests of an opening, and the lengths of both blocks.
+fn open_blocks_gate(
+    n: u64,
+    e: u32,
+    cap: u64,
+    words: u64,
+    flags: u64,
+    state: usize,
+    answer: usize,
+) -> Gated
+    ensures { λ r. ⌜ r ≡ openBlocksGate n e cap words flags state answer ⌝ }
+{
+    match open_gate(n, e, cap, words, flags) {
+        Gated::Refused(g) => Gated::Refused(g),
+        Gated::Passed => {
+            if state != STATE_LENGTH {
+                return Gated::Refused(Gate::State);
+            }
+            if answer != ANSWER_LENGTH {
+                return Gated::Refused(Gate::State);
+            }
+            Gated::Passed
+        }
+    }
+}
+
+// What a refused opening says: nothing where a state block of another length is STATE.
+fn refuse_open(state: usize, answer: &mut [u8], gate: Gate) -> u64
+    ensures { λ r. ⌜ reply r (now (answer .exit)) ≡ reply (numberOf (nameOf gate)) (openSaying (numberOf (nameOf gate)) state (now (answer .entry))) ⌝ }
+{
+    let refused = number(gate_name(gate));
+    if refused != number(Name::State) {
+        return say_gate(answer, gate);
+    }
+    if state != STATE_LENGTH {
+        return refused;
+    }
+    say_gate(answer, gate)
+}
+
+fn open_in(
+    n: u64,
+    e: u32,
+    seed: u64,
+    word_cap: u64,
+    state: &mut [u8],
+    words: &mut [u8],
+    flags: &mut [u8],
+    answer: &mut [u8],
+) -> u64
+    requires { ⌜ openBlocksGate n e «word_cap» (wordCount (length (now words))) (length (now flags)) (length (now state)) (length (now answer)) ≡ Passed ⌝ }
+    ensures { λ r. ⌜ OpensBy Passed n e seed «word_cap» (now (state .entry)) (now (words .entry)) (now (flags .entry)) (now (answer .entry)) r (now (state .exit)) (now (words .exit)) (now (flags .exit)) (now (answer .exit)) ⌝ }
+{
+    let mut counts = [0; 118];
+    match funnel_plan(n, e, &mut counts) {
+        FunnelPlanned::Refused(g) => number(gate_name(g)),
+        FunnelPlanned::Plan(plan) => {
+            let table = FunnelTable {
+                n,
+                e,
+                seed,
+                word_cap,
+                count: 0,
+                plan,
+            };
+            write_table(state, table, &counts);
+            clear_bytes(words);
+            clear_bytes(flags);
+            clear_bytes(answer);
+            0
+        }
+    }
 }

@@ -1,4 +1,43 @@
-// The calls for C.
+// The calls for C: funnel tables on numbers and byte slices. Carries request 1 of the changes after the base.
+//
+// Each call tests what it is lent, requires nothing, answers the number of its refusal (0 where there is none), and writes what more
+// it has to say to the answer block. It walks the base's path over another storage: only the scan and the walk are written
+// again, for words lent as little-endian bytes, eight to a word; no table is copied.
+//
+// Every number in a block is a little-endian word of eight bytes. The state block, 2,048 bytes, of a funnel table:
+//
+//     0     1, the kind: a funnel table (2 is kept for elastic tables; any other block holds no state)
+//     8     n               16  e, below 2^32       24  seed            32  word cap        40  count
+//     48    maximum         56  alpha               64  beta            72  g               80  fallback width
+//     88    special length  96  primary length     104  fallback length
+//     112   fallback buckets                       120  buckets of all levels               128  first count
+//     136   the counts of 118 levels, 0 past the last
+//     1080  zeros, which no call reads
+//
+// The answer block, 128 bytes, zeros where there is nothing to say:
+//
+//     0   probes: the slots read
+//     8   kind of the place: 1 ordinary, 2 primary, 3 fallback
+//     16  level             24  bucket
+//     32  slot in its bucket, or among the primary ones
+//     40  global slot
+//     48  words, of RANGE
+//     56  1 where a search met the identity, 0 where it met a vacancy
+//
+// and kept for the calls to come: 64 placed, 72 position, 80 mapped, 88 gap, 96 byte place, 104 label offset, 112 label length,
+// 120 image length.
+//
+//     lent.rt        words in bytes
+//     scan_bytes.rt  walks over slots, the only readers of the buffers
+//     walk_bytes.rt  the stages of a path, and the search along all of it, in a valid table
+//     put_bytes.rt   insertion into a valid table
+//     state.rt       the state block
+//     answer.rt      the answer block
+//     funnels.rt     the exported calls: open, search, insert
+//
+// specs/Lent.antt says what words lent as bytes are, State.antt and Answer.antt what the blocks hold, Calls.antt what each call
+// answers and leaves.
+
 pub mod answer;
 pub mod funnels;
 pub mod lent;

@@ -18,11 +18,16 @@ pub const STATE_LENGTH: usize = 2048;
 // What the first word says of a block that holds a funnel table.
 pub const FUNNEL_KIND: u64 = 1;
 
+// Where the count and the counts of the levels lie.
+const COUNT: usize = 40;
+
+const COUNTS: usize = 136;
+
 // Whether a block holds a funnel table.
 pub fn holds_funnel(state: &[u8]) -> bool
     ensures { λ r. ⌜ r ≡ holdsFunnel (now (state .entry)) ⌝ }
 {
-    if state.len() != 2048 {
+    if state.len() != STATE_LENGTH {
         return false;
     }
     if read64(state, 0) != FUNNEL_KIND {
@@ -43,7 +48,7 @@ pub fn table_in(state: &[u8]) -> FunnelTable
         e: e as u32,
         seed: read64(state, 24),
         word_cap: read64(state, 32),
-        count: read64(state, 40),
+        count: read64(state, COUNT),
         plan,
     }
 }
@@ -82,7 +87,7 @@ fn fill_counts(state: &[u8], counts: &mut [u64])
 {
     let mut i = 0;
     while i < 118 {
-        counts[i] = read64(state, 136 + i * 8);
+        counts[i] = read64(state, COUNTS + i * 8);
         i += 1;
     }
 }
@@ -114,7 +119,7 @@ pub fn write_table(state: &mut [u8], table: FunnelTable, counts: &[u64; 118])
     ];
     clear_bytes(state);
     write_words(state, 0, &header);
-    write_words(state, 136, counts);
+    write_words(state, COUNTS, counts);
 }
 
 fn wide(x: u32) -> u64
@@ -140,5 +145,5 @@ pub fn write_count(state: &mut [u8], count: u64)
     requires { ⌜ length (now state) ≡ 2048 ⌝ }
     ensures { λ r. ⌜ now (state .exit) ≡ withCountIn (now (state .entry)) count ⌝ }
 {
-    write64(state, 40, count);
+    write64(state, COUNT, count);
 }
