@@ -8,10 +8,9 @@ ghost use Rattle.audit.specs.Special.{live};
 ghost use Rattle.audit.specs.Verdicts.{bare, Judged, Stowed};
 ghost use Rattle.funnel.specs.Path.{primaryStart};
 ghost use Rattle.funnel.specs.Valid.{Valid};
-use funnel::search::search_levels;
+use funnel::search::find_ordinary;
 use funnel::table::FunnelTable;
 use funnel::table::Search;
-use probe::word::funnel_key;
 
 // Gives a verdict on each special slot, in its own mark: 1 for a slot that is live.
 pub fn judge(
@@ -55,8 +54,7 @@ fn is_live(
         return false;
     }
     let identity = words[s];
-    let key = funnel_key(table.seed, identity);
-    match search_levels(table, counts, words, marks, identity, key) {
+    match find_ordinary(table, counts, words, marks, identity) {
         Search::Vacant {
             probes: _,
             place: _,

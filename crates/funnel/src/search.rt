@@ -5,7 +5,7 @@ ghost use lib.ListN.{length, getD};
 ghost use Rattle.probe.specs.Counter.{levelOf, funnelCounterOf};
 ghost use Rattle.probe.specs.Range.{drawOf};
 ghost use Rattle.funnel.specs.Path.{levelsFrom, primaryFrom, fallbackOf};
-ghost use Rattle.funnel.specs.Search.{searchOf, findOf};
+ghost use Rattle.funnel.specs.Search.{searchOf, findOf, findUpTo};
 ghost use Rattle.funnel.specs.Stop.{StopsAt, FirstAhead};
 ghost use Rattle.funnel.specs.Valid.{Valid, Keyed, SpecialRoom, Drawable, DrawnAhead};
 use crate::scan::pass;
@@ -27,7 +27,7 @@ use words::place::GlobalSlot;
 use words::place::LogicalProbe;
 use words::place::Place;
 
-// The search for an identity in a valid table. The key is worked out once.
+// The search for an identity in a valid table.
 pub fn find(
     table: FunnelTable,
     counts: &[u64; 118],
@@ -38,22 +38,57 @@ pub fn find(
     requires { ⌜ Valid table (now counts) (now words) (now flags) ⌝ }
     ensures { λ r. ⌜ r ≡ findOf table (now (counts .entry)) (now (words .entry)) (now (flags .entry)) identity ⌝ }
 {
+    find_up_to(table, counts, words, flags, identity, false)
+}
+
+// The search along the ordinary part of an identity's path alone.
+pub fn find_ordinary(
+    table: FunnelTable,
+    counts: &[u64; 118],
+    words: &[u64],
+    flags: &[u8],
+    identity: u64,
+) -> Search
+    requires { ⌜ Valid table (now counts) (now words) (now flags) ⌝ }
+    ensures { λ r. ⌜ r ≡ searchOf (now (words .entry)) (now (flags .entry)) identity (levelsFrom (table .plan) (now (counts .entry)) (table .seed) (table .«word_cap») identity 0 (table .plan .alpha)) 0 ⌝ }
+{
+    find_up_to(table, counts, words, flags, identity, true)
+}
+
+// The search for an identity, which may be told to stop where the ordinary part of the path ends. One function serves both, so that
+// the stages are compiled into it. The key is worked out once.
+fn find_up_to(
+    table: FunnelTable,
+    counts: &[u64; 118],
+    words: &[u64],
+    flags: &[u8],
+    identity: u64,
+    stop: bool,
+) -> Search
+    requires { ⌜ Valid table (now counts) (now words) (now flags) ⌝ }
+    ensures { λ r. ⌜ r ≡ findUpTo stop table (now (counts .entry)) (now (words .entry)) (now (flags .entry)) identity ⌝ }
+{
     let key = funnel_key(table.seed, identity);
     let ordinary = search_levels(table, counts, words, flags, identity, key);
     let Search::Full { probes: read } = ordinary else {
         return ordinary;
     };
+    if stop {
+        return ordinary;
+    }
+    // The later stages are seldom reached and not compiled into this function: they get a copy, so that the table stays in registers.
+    let rest = table;
     let primary_start = table.n - table.plan.special_len;
-    let primary = search_primary(table, primary_start, words, flags, identity, key, read);
+    let primary = search_primary(rest, primary_start, words, flags, identity, key, read);
     let Search::Full { probes: more } = primary else {
         return primary;
     };
     let fallback_start = primary_start + table.plan.special_primary_len;
-    search_fallback(table, fallback_start, words, flags, identity, key, more)
+    search_fallback(rest, fallback_start, words, flags, identity, key, more)
 }
 
 // "per level one bucket, slots in order"
-pub fn search_levels(
+fn search_levels(
     table: FunnelTable,
     counts: &[u64; 118],
     words: &[u64],

@@ -64,6 +64,10 @@ wordsAt = 48
 abbrev pub foundAt : ℕ
 foundAt = 56
 
+-- how many identities were placed
+abbrev pub placedAt : ℕ
+placedAt = 64
+
 -- ---- what the calls say
 
 unfoldable pub placeFields : Place → List Field

@@ -10,3 +10,6 @@ pub mod Calls
 pub mod CallLaws
 pub mod PutLaws
 pub mod OpenLaws
+pub mod BlockLaws
+pub mod Place
+pub mod PlaceLaws

@@ -31,6 +31,7 @@
 //     scan_bytes.rt  walks over slots, the only readers of the buffers
 //     walk_bytes.rt  the stages of a path, and the search along all of it, in a valid table
 //     put_bytes.rt   insertion into a valid table
+//     place_bytes.rt many insertions into a valid table
 //     state.rt       the state block
 //     answer.rt      the answer block
 //     funnels.rt     the exported calls: open, search, insert
@@ -41,6 +42,7 @@
 pub mod answer;
 pub mod funnels;
 pub mod lent;
+pub mod place_bytes;
 pub mod put_bytes;
 pub mod scan_bytes;
 pub mod state;
