@@ -92,7 +92,14 @@ fn of_numbers(leaf: Leaf, a: [u64; 7]) -> Said {
         Leaf::Budget => budgeted(a[0], a[1], a[2], a[3]),
         Leaf::ElasticWord => word(elastic_word(a[0], a[1], a[2], LogicalProbe(a[3]), a[4])),
         Leaf::FunnelWord => word_of_funnel(a),
-        Leaf::ElasticReduce => of_reduced(elastic_reduce(a[0], a[1], a[2], LogicalProbe(a[3]), a[4], a[5])),
+        Leaf::ElasticReduce => of_reduced(elastic_reduce(
+            a[0],
+            a[1],
+            a[2],
+            LogicalProbe(a[3]),
+            a[4],
+            a[5],
+        )),
         Leaf::FunnelReduce => reduced_of_funnel(a),
     }
 }
