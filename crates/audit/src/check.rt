@@ -7,8 +7,8 @@ use crate::pass::take_members;
 use crate::slots::First;
 use crate::slots::first_dirty;
 use crate::slots::first_unplaced;
-use funnel::calls::table_gate;
 use funnel::table::FunnelTable;
+use funnel_calls::calls::table_gate;
 use geometry::config::Gated;
 use refusal::Gate;
 

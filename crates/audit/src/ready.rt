@@ -5,10 +5,10 @@ ghost use Prim.Native.Nat.{_<_};
 ghost use lib.ListN.{length};
 ghost use Rattle.audit.specs.Greedy.{ready};
 ghost use Rattle.funnel.specs.Valid.{Valid};
-use funnel::insert::slot_of;
 use funnel::search::find;
 use funnel::table::FunnelTable;
 use funnel::table::Search;
+use funnel::table::slot_of;
 
 // Whether a slot is ready, with some placed.
 pub fn is_ready(

@@ -10,11 +10,11 @@ ghost use Rattle.funnel.specs.Path.{primaryStart};
 ghost use Rattle.funnel.specs.Search.{searchOf};
 ghost use Rattle.funnel.specs.Valid.{Valid};
 use crate::slots::First;
-use funnel::insert::slot_of;
 use funnel::search::search_fallback;
 use funnel::search::search_primary;
 use funnel::table::FunnelTable;
 use funnel::table::Search;
+use funnel::table::slot_of;
 use probe::word::funnel_key;
 
 // Takes the smallest ready slot of the special part, which starts at `start`, again and again: how many are placed then. The ordinary

@@ -1,10 +1,6 @@
 // Funnel tables, whose numbers travel as n, e, seed, word cap, count and the plan.
 ghost use Rattle.funnel.specs.Valid.{Valid};
 use crate::put_plan;
-use funnel::calls::insert;
-use funnel::calls::open;
-use funnel::calls::place_all;
-use funnel::calls::table_gate;
 use funnel::search::find;
 use funnel::table::FunnelTable;
 use funnel::table::InsertAnswer;
@@ -13,6 +9,10 @@ use funnel::table::OpenAnswer;
 use funnel::table::PlaceAnswer;
 use funnel::table::Placement;
 use funnel::table::Search;
+use funnel_calls::calls::insert;
+use funnel_calls::calls::open;
+use funnel_calls::calls::place_all;
+use funnel_calls::calls::table_gate;
 use geometry::config::Gated;
 use geometry::funnel::FunnelPlan;
 

@@ -30,7 +30,7 @@ mod verdict;
 
 use buffers::MOST_BYTES;
 use buffers::image_buffer;
-use funnel::calls::MOST_WORDS;
+use funnel_calls::calls::MOST_WORDS;
 use say::put_text;
 use table::examine;
 use table::refuse_length;

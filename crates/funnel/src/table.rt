@@ -1,4 +1,7 @@
 // The state of a funnel table, and what its calls answer.
+ghost use mathlib.Core.Path.{_≡_};
+ghost use Rattle.funnel.specs.Path.{slotOf};
+ghost use Rattle.funnel.specs.Insert.{withCount};
 use geometry::funnel::FunnelPlan;
 use refusal::Gate;
 use refusal::RangeRefusal;
@@ -84,4 +87,36 @@ pub enum InsertAnswer {
 pub enum PlaceAnswer {
     Gate(Gate),
     Done(PlacedAll),
+}
+
+// The table with another count.
+pub fn with_count(table: FunnelTable, count: u64) -> FunnelTable
+    ensures { λ r. ⌜ r ≡ withCount table count ⌝ }
+{
+    let mut next = table;
+    next.count = count;
+    next
+}
+
+// The global slot of a place, as a number.
+pub fn slot_of(place: Place) -> u64
+    ensures { λ r. ⌜ r ≡ slotOf place ⌝ }
+{
+    match place {
+        Place::Ordinary {
+            level: _,
+            bucket: _,
+            slot_in_bucket: _,
+            global_slot,
+        } => global_slot.0,
+        Place::SpecialPrimary {
+            slot: _,
+            global_slot,
+        } => global_slot.0,
+        Place::SpecialFallback {
+            bucket: _,
+            slot_in_bucket: _,
+            global_slot,
+        } => global_slot.0,
+    }
 }

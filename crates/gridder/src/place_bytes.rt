@@ -9,11 +9,11 @@ ghost use Rattle.gridder.specs.Place.{LentRoom};
 ghost use Rattle.gridder.specs.Valid.{ValidLent};
 use crate::lent::word_at;
 use crate::put_bytes::put;
-use funnel::insert::slot_of;
 use funnel::table::FunnelTable;
 use funnel::table::Insertion;
 use funnel::table::PlacedAll;
 use funnel::table::Placement;
+use funnel::table::slot_of;
 use words::bytes::write64;
 
 // For each identity the slot where it is or was put, up to the first refusal. Slots past that are left as they were.

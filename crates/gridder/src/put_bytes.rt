@@ -5,10 +5,10 @@ ghost use Rattle.funnel.specs.Insert.{done, withCount, stepped, insertOf};
 ghost use Rattle.gridder.specs.Lent.{wordsOf};
 ghost use Rattle.gridder.specs.Valid.{ValidLent};
 use crate::walk_bytes::find;
-use funnel::insert::slot_of;
 use funnel::table::FunnelTable;
 use funnel::table::Insertion;
 use funnel::table::Search;
+use funnel::table::slot_of;
 use words::bytes::write64;
 
 // The insertion of an identity into the table with another count.
