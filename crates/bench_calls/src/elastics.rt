@@ -1,12 +1,12 @@
 // Elastic tables, whose numbers travel as n, e, seed, c, word cap, search cap, position cap, levels, maximum and count.
-use elastic::insert::InsertAnswer;
-use elastic::insert::insert;
-use elastic::query::QueryAnswer;
-use elastic::query::query;
 use elastic::state::Limits;
 use elastic::state::Opened;
 use elastic::state::State;
 use elastic::state::open;
+use elastic_insert::insert::InsertAnswer;
+use elastic_insert::insert::insert;
+use elastic_query::query::QueryAnswer;
+use elastic_query::query::query;
 use geometry::elastic::ElasticPlan;
 
 fn limits_of(s: &[u64; 10]) -> Limits {

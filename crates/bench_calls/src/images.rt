@@ -2,10 +2,10 @@
 use crate::funnels::table_of;
 use audit::check::Checked;
 use audit::check::check;
-use image::calls::Loaded;
-use image::calls::load_image;
-use image::calls::write_image;
-use image::writer::Written;
+use image_calls::calls::Loaded;
+use image_calls::calls::load_image;
+use image_calls::calls::write_image;
+use image_calls::writer::Written;
 
 // How many members the check placed where it accepts; 0 where it does not.
 #[no_mangle]

@@ -21,12 +21,12 @@ use Rattle.geometry.specs.declared.funnel.FunnelPlan.{FunnelPlan}
 use Rattle.funnel.specs.Fresh.{fresh, after, Sound}
 use Rattle.funnel.specs.FreshLaws.{fresh-after}
 use Rattle.funnel.specs.Insert.{withCount}
-use Rattle.image.specs.declared.calls.Loaded.the-variants as loaded
-use Rattle.image.specs.declared.writer.Written.the-variants as written
-use Rattle.image.specs.Calls.{writeImageOf, loadings, loadImageOf}
-use Rattle.image.specs.DirtyLaws.{entries-most}
+use Rattle.image_calls.specs.declared.calls.Loaded.the-variants as loaded
+use Rattle.image_calls.specs.declared.writer.Written.the-variants as written
+use Rattle.image_calls.specs.Calls.{writeImageOf, loadings, loadImageOf}
+use Rattle.image_calls.specs.DirtyLaws.{entries-most}
 use Rattle.image.specs.Format.{entriesOf}
-use Rattle.image.specs.Writing.{writes}
+use Rattle.image_calls.specs.Writing.{writes}
 use Rattle.image_laws.specs.CallRoundTrip.{load-image-after-write-image}
 use Rattle.image_laws.specs.RoundTrip.{Machine}
 use Rattle.demand.specs.RunLaws.{after-made}

@@ -1,4 +1,5 @@
-// Elastic tables: opening, insertion, query. Carries 01's "Tables", elastic part, and the Rust's `ScalarElastic` with `CounterPrf`.
+// Elastic tables: state, opening, and the slots of a level. Carries 01's "Tables", elastic part, and the Rust's `ScalarElastic` with
+// `CounterPrf`; insertion is in `elastic_insert`, the query in `elastic_query`: a crate is proved as a whole, so each is one.
 //
 // A table is a state by value, its level counts, and two lent buffers of n entries: words, and flags (0 is vacant). Its levels
 // lie side by side, each about half of what remains:
@@ -11,10 +12,6 @@
 //
 //     state.rt     the state, its limits, the tests 1 to 3, 6 and 7; opening
 //     route.rt     the slot of a probe; the search for a vacancy; the scan for an identity
-//     insert.rt    the choice of the levels, and the insertion
-//     query.rt     the query, by mapped positions alone
 
-pub mod insert;
-pub mod query;
 pub mod route;
 pub mod state;

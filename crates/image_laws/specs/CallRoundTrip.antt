@@ -13,17 +13,17 @@ use Rattle.funnel.specs.Calls.{tableGate}
 use Rattle.funnel.specs.Insert.{withCount}
 use Rattle.funnel.specs.Valid.{Valid}
 use Rattle.funnel.specs.declared.table.FunnelTable.{FunnelTable}
-use Rattle.image.specs.CallLaws.{gate-short, Writable, gate-writable}
-use Rattle.image.specs.Calls.{writeGate, writeBy, writeImageOf, Loadings, loadings, loadedOf, loadBy, loadImageOf}
-use Rattle.image.specs.FillLaws.{length-fill-words, length-fill-flags}
+use Rattle.image_calls.specs.CallLaws.{gate-short, Writable, gate-writable}
+use Rattle.image_calls.specs.Calls.{writeGate, writeBy, writeImageOf, Loadings, loadings, loadedOf, loadBy, loadImageOf}
+use Rattle.image_calls.specs.FillLaws.{length-fill-words, length-fill-flags}
 use Rattle.image.specs.Format.{labelMost, entriesOf}
-use Rattle.image.specs.Loading.{Loads, loads, loadOf}
+use Rattle.image_calls.specs.Loading.{Loads, loads, loadOf}
 use Rattle.image.specs.Reading.{rising}
-use Rattle.image.specs.Writing.{Writes, writes, onto, writeOf}
-use Rattle.image.specs.declared.calls.Loaded.the-variants as loaded
-use Rattle.image.specs.declared.loader.Filled.{Filled}
-use Rattle.image.specs.declared.loader.Filled.the-variants as filled
-use Rattle.image.specs.declared.writer.Written.the-variants as written
+use Rattle.image_calls.specs.Writing.{Writes, writes, onto, writeOf}
+use Rattle.image_calls.specs.declared.calls.Loaded.the-variants as loaded
+use Rattle.image_calls.specs.declared.loader.Filled.{Filled}
+use Rattle.image_calls.specs.declared.loader.Filled.the-variants as filled
+use Rattle.image_calls.specs.declared.writer.Written.the-variants as written
 use Rattle.image_laws.specs.ReadAfterWrite.{labelPlace}
 use Rattle.image_laws.specs.RoundTrip.{Machine, LoadedAll, loaded-all, load-after-write, write-after-load}
 use Rattle.image_laws.specs.TableLaws.{rising-few}

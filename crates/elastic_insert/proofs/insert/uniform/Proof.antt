@@ -1,0 +1,42 @@
+-- `elastic_insert::insert::uniform` meets its contract: each return is a law of the search. Assumes nothing.
+use Rattle.elastic_insert.specs.InsertLaws.{uniform-vacant, uniform-passed, uniform-refused}
+use borrow.Author.Needs.{needs}
+use Rattle.elastic_insert.proofs.insert.uniform.Statement.{statement}
+use Rattle.elastic_insert.proofs.insert.uniform.Tie as tie
+
+sub-last : tie.Need-sub-last
+sub-last c = search needs
+
+seek-requires : tie.Need-seek-requires
+seek-requires c κs = search needs
+
+enum-known-slot : tie.Need-enum-known-slot
+enum-known-slot c = search needs
+
+returns : tie.Need-returns
+returns c = uniform-vacant _ _ _ _ _ _ _ _ (c .before .before .before .seek .ensures) _ _ (c .before .slot .given .1)
+
+enum-told : tie.Need-enum-told
+enum-told c = search needs
+
+returns-2 : tie.Need-returns-2
+returns-2 c = uniform-passed _ _ _ _ _ _ _ _ (c .before .before .seek .ensures) (c .enum-told .given .1)
+
+enum-known-refusal : tie.Need-enum-known-refusal
+enum-known-refusal c = search needs
+
+returns-3 : tie.Need-returns-3
+returns-3 c = uniform-refused _ _ _ _ _ _ _ _ (c .before .before .before .seek .ensures) _ (c .before .refusal .given .1)
+
+pub uniform-spec : {M : Type 1} → statement M
+uniform-spec =
+    tie.close
+    (tie.spec
+    sub-last
+    seek-requires
+    enum-known-slot
+    returns
+    enum-told
+    returns-2
+    enum-known-refusal
+    returns-3)

@@ -1,0 +1,4 @@
+pub mod Insert
+pub mod InsertLaws
+pub mod Table
+pub mod TableLaws

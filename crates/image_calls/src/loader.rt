@@ -1,0 +1,120 @@
+// The loader: the whole image is read first, and only a right image of this very table is filled in.
+ghost use mathlib.Core.Bool.{true};
+ghost use mathlib.Core.Path.{_≡_};
+ghost use Prim.Native.Nat.{_+_, _*_, _≤_};
+ghost use lib.ListN.{length, replicate};
+ghost use Rattle.image.specs.Format.{entrySize};
+ghost use Rattle.image.specs.Reading.{entriesAt, readOf};
+ghost use Rattle.image_calls.specs.Fill.{isGood, slotsIn, entriesIn, Fills, Fits};
+ghost use Rattle.image_calls.specs.Loading.{ofTable, loads, loadOf};
+use funnel::table::FunnelTable;
+use image::field::ENTRY_SIZE;
+use image::field::Framed;
+use image::field::frame;
+use image::field::low_after;
+use image::reader::Head;
+use image::reader::Outcome;
+use image::reader::read;
+use words::bytes::read64;
+use words::clear::clear_bytes;
+use words::clear::clear_words;
+
+// What loading into valid buffers comes to: IMAGE with its place, FOREIGN, or the number of entries and the label's place.
+pub enum Filled {
+    Image {
+        place: u64,
+    },
+    Foreign,
+    Done {
+        count: u64,
+        label_at: u64,
+        label_len: u64,
+    },
+}
+
+// The buffers of a table, which have its length, from an image of it.
+pub fn load(table: FunnelTable, words: &mut [u64], flags: &mut [u8], image: &[u8]) -> Filled
+    requires { ⌜ (length (now words) ≡ table .n) × (length (now flags) ≡ table .n) ⌝ }
+    ensures { λ r. ⌜ loads r (now (words .exit)) (now (flags .exit)) ≡ loadOf (table .n) (table .e) (table .seed) (now (words .entry)) (now (flags .entry)) (now (image .entry)) ⌝ }
+{
+    let n = table.n;
+    let e = table.e as u64;
+    let seed = table.seed;
+    match read(image) {
+        Outcome::Bad { place } => {
+            return Filled::Image {
+                place: place as u64,
+            };
+        }
+        Outcome::Good { head } => {
+            if !own(n, e, seed, head) {
+                return Filled::Foreign;
+            }
+            clear_words(words);
+            clear_bytes(flags);
+            fill_image(image, words, flags);
+            return Filled::Done {
+                count: head.count as u64,
+                label_at: head.label_at as u64,
+                label_len: head.label_len as u64,
+            };
+        }
+    }
+}
+
+// Whether an image is of the table (n, e, seed).
+fn own(n: u64, e: u64, seed: u64, head: Head) -> bool
+    ensures { λ r. ⌜ r ≡ ofTable n e seed (head .n) (head .e) (head .seed) ⌝ }
+{
+    if head.n == n {
+        if head.e == e {
+            return head.seed == seed;
+        }
+    }
+    false
+}
+
+// Both buffers hold the entries of a right image besides what they held. A right image has no wrong field, so nothing is
+// tested again.
+fn fill_image(image: &[u8], words: &mut [u64], flags: &mut [u8])
+    requires { ⌜ (isGood (readOf (now image)) ≡ true) × (slotsIn (readOf (now image)) ≤ length (now words)) × (slotsIn (readOf (now image)) ≤ length (now flags)) ⌝ }
+    ensures { λ r. ⌜ Fills (now (words .entry)) (now (flags .entry)) (entriesIn (readOf (now (image .entry)))) (now (words .exit)) (now (flags .exit)) ⌝ }
+{
+    let mut low: u8 = 1;
+    let mut at: usize = 0;
+    loop {
+        match frame(image, low, at) {
+            Framed::Wrong { place: _ } => {
+                return;
+            }
+            Framed::Field { tag, len } => {
+                if tag == 6 {
+                    return;
+                }
+                let body = at + 3;
+                low = low_after(tag, len);
+                at = body + len;
+                if tag == 5 {
+                    fill_field(image, body, len / ENTRY_SIZE, words, flags);
+                }
+            }
+        }
+    }
+}
+
+// The entries of a field whose slots are known to be right.
+fn fill_field(image: &[u8], at: usize, count: usize, words: &mut [u64], flags: &mut [u8])
+    requires { ⌜ (at + entrySize * count ≤ length (now image)) × Fits (entriesAt (now image) at count) (length (now words)) (length (now flags)) ⌝ }
+    ensures { λ r. ⌜ Fills (now (words .entry)) (now (flags .entry)) (entriesAt (now (image .entry)) at count) (now (words .exit)) (now (flags .exit)) ⌝ }
+{
+    let mut p = at;
+    let mut left = count;
+    while 0 < left {
+        let slot = read64(image, p) as usize;
+        let identity = read64(image, p + 8);
+        words[slot] = identity;
+        flags[slot] = 1;
+        p += ENTRY_SIZE;
+        left -= 1;
+    }
+}
