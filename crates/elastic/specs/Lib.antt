@@ -1,0 +1,4 @@
+pub mod Reading
+pub mod ReadingLaws
+pub mod State
+pub mod StateLaws

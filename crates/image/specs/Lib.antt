@@ -1,0 +1,9 @@
+pub mod AlongLaws
+pub mod Cursor
+pub mod CursorLaws
+pub mod Format
+pub mod FrameLaws
+pub mod Reading
+pub mod ReadingLaws
+pub mod RiseLaws
+pub mod TestLaws
