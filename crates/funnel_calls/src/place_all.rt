@@ -86,7 +86,7 @@ fn settle(
 }
 
 // An insertion's answer as a placement tells it.
-fn settled(answer: Insertion, index: u64) -> Settled
+pub fn settled(answer: Insertion, index: u64) -> Settled
     ensures { λ r. ⌜ r ≡ settledOf answer index ⌝ }
 {
     match answer {
