@@ -65,6 +65,7 @@ unsafe extern "C" {
         marks_len: usize,
         order: *mut u64,
         order_len: usize,
+        told: *mut [u64; 2],
     ) -> u64;
     fn bench_write_image(
         state: *const State,
@@ -133,6 +134,14 @@ pub fn is_funnel_plan(n: u64, e: u32, plan: &Plan, counts: &Counts) -> bool {
 /// The sum of the buckets of an identity in the levels.
 pub fn draws(seed: u64, identity: u64, cap: u64, counts: &[u64]) -> u64 {
     unsafe { bench_draws(seed, identity, cap, counts.as_ptr(), counts.len()) }
+}
+
+/// What the check says of a table.
+#[derive(Debug, PartialEq, Eq)]
+pub enum Verdict {
+    Accepted { placed: u64 },
+    Disorder { placed: u64, slot: u64 },
+    Other,
 }
 
 /// A funnel table with its buffers.
@@ -227,9 +236,19 @@ impl Funnel {
         }
     }
 
-    /// How many members the check placed where it accepts the table, 0 where it does not.
-    pub fn check(&self, marks: &mut [u8], order: &mut [u64]) -> u64 {
-        unsafe {
+    /// Puts an identity into a slot, whatever its path is.
+    pub fn put(&mut self, slot: usize, identity: u64) {
+        self.words[slot] = identity;
+        self.flags[slot] = 1;
+    }
+
+    pub fn slots(&self) -> usize {
+        self.words.len()
+    }
+
+    pub fn check(&self, marks: &mut [u8], order: &mut [u64]) -> Verdict {
+        let mut told = [0; 2];
+        let ending = unsafe {
             bench_check(
                 &self.state,
                 &self.counts,
@@ -241,7 +260,14 @@ impl Funnel {
                 marks.len(),
                 order.as_mut_ptr(),
                 order.len(),
+                &mut told,
             )
+        };
+        let [placed, slot] = told;
+        match ending {
+            0 => Verdict::Accepted { placed },
+            1 => Verdict::Disorder { placed, slot },
+            _ => Verdict::Other,
         }
     }
 

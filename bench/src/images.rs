@@ -3,7 +3,7 @@
 
 use std::hint::black_box;
 
-use crate::calls::{self, Funnel};
+use crate::calls::{self, Funnel, Verdict};
 use crate::funnels::{CAP, SEED, identity};
 use crate::measure::Table;
 
@@ -30,7 +30,7 @@ fn check(table: &mut Table, n: u64, members: &[u64], slots: &mut [u64], filled: 
     table.row_after(&format!("check beside place_all, n {n}, e 3"), members.len(), filled, &mut fresh, |_| (), |fresh| {
         fresh.clear();
     }, |filled| {
-        assert_eq!(filled.check(&mut marks, &mut order), members.len() as u64);
+        assert_eq!(filled.check(&mut marks, &mut order), Verdict::Accepted { placed: members.len() as u64 });
     }, |fresh| {
         assert!(fresh.place_all(members, slots));
     });

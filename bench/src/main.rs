@@ -16,6 +16,8 @@ mod elastics;
 mod funnels;
 mod hostile;
 mod images;
+#[path = "../../oracle/src/hostile.rs"]
+mod images_made;
 mod layouts;
 mod measure;
 #[path = "../../oracle/src/panics.rs"]

@@ -17,7 +17,7 @@ pub struct Table {
 
 impl Table {
     pub fn new(wanted: Vec<String>) -> Self {
-        println!("{:<46} {:>12} {:>12} {:>7}", "", "ours, ns", "other, ns", "ratio");
+        println!("{:<56} {:>12} {:>12} {:>7}", "", "ours, ns", "other, ns", "ratio");
         println!("(other: the Rust, or what the row names)");
         Self { wanted }
     }
@@ -26,16 +26,21 @@ impl Table {
         self.wanted.is_empty() || self.wanted.iter().any(|start| name.starts_with(start.as_str()))
     }
 
-    /// One row: each side does the same `operations`; its time for one of them is the median over the rounds.
+    /// Whether rows are wanted whose names begin so.
+    pub fn may_want(&self, start: &str) -> bool {
+        self.wants(start) || self.wanted.iter().any(|name| name.starts_with(start))
+    }
+
+    /// One row: each side does the same `operations`; its time for one of them is the median over the rounds. Gives the ratio.
     pub fn row(
         &mut self,
         name: &str,
         operations: usize,
         mut ours: impl FnMut(),
         mut theirs: impl FnMut(),
-    ) {
+    ) -> f64 {
         if !self.wants(name) {
-            return;
+            return 0.0;
         }
         ours();
         theirs();
@@ -45,7 +50,7 @@ impl Table {
             times[0].push(time(&mut ours));
             times[1].push(time(&mut theirs));
         }
-        self.print(name, operations, times);
+        self.print(name, operations, times)
     }
 
     /// One row whose sides are made ready before each round, untimed.
@@ -79,12 +84,13 @@ impl Table {
         self.print(name, operations, times);
     }
 
-    fn print(&self, name: &str, operations: usize, times: [Vec<f64>; 2]) {
+    fn print(&self, name: &str, operations: usize, times: [Vec<f64>; 2]) -> f64 {
         let [ours, theirs] = times.map(|mut side| {
             side.sort_by(f64::total_cmp);
             side[side.len() / 2] / operations as f64
         });
-        println!("{name:<46} {ours:>12.1} {theirs:>12.1} {:>7.3}", ours / theirs);
+        println!("{name:<56} {ours:>12.1} {theirs:>12.1} {:>7.3}", ours / theirs);
+        ours / theirs
     }
 }
 

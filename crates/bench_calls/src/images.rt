@@ -7,7 +7,7 @@ use image_calls::calls::load_image;
 use image_calls::calls::write_image;
 use image_calls::writer::Written;
 
-// How many members the check placed where it accepts; 0 where it does not.
+// What the check says: 0 accepted, 1 disorder, 2 another refusal; and the number placed, and the slot of a disorder.
 #[no_mangle]
 pub extern "C" fn bench_check(
     state: &[u64; 16],
@@ -16,12 +16,20 @@ pub extern "C" fn bench_check(
     flags: &[u8],
     marks: &mut [u8],
     order: &mut [u64],
+    told: &mut [u64; 2],
 ) -> u64 {
     match check(table_of(state), counts, words, flags, marks, order) {
-        Checked::Accepted { placed } => placed,
-        Checked::Disorder { placed: _, slot: _ } => 0,
-        Checked::Dirty { slot: _ } => 0,
-        Checked::Gate(_) => 0,
+        Checked::Accepted { placed } => {
+            told[0] = placed;
+            0
+        }
+        Checked::Disorder { placed, slot } => {
+            told[0] = placed;
+            told[1] = slot;
+            1
+        }
+        Checked::Dirty { slot: _ } => 2,
+        Checked::Gate(_) => 2,
     }
 }
 
