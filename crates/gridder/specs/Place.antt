@@ -19,16 +19,10 @@ use Rattle.funnel.specs.declared.table.Placement.{Placement}
 use Rattle.funnel.specs.declared.table.Placement.the-variants as placement
 use Rattle.gridder.specs.Answer.{answerLength, Field, field, probesAt, wordsAt, placedAt, says, saying}
 use Rattle.gridder.specs.Calls.{callGate}
-use Rattle.gridder.specs.Lent.{wordsOf, wordCount}
+use Rattle.lent.specs.Lent.{wordsOf, wordCount}
 use Rattle.gridder.specs.State.{holdsFunnel, tableIn, countsIn, withCountIn}
 
--- identities and slots that are whole words, with a slot for each identity
-pub record LentRoom (identities slots : List ℕ) : Type 0 where
-  pub whole : length identities % 8 ≡ 0
-  pub whole-slots : length slots % 8 ≡ 0
-  pub room : length identities ≤ length slots
-
--- whether they are, by their lengths
+-- whether identities and slots are whole words, with a slot for each identity, by their lengths
 unfoldable pub roomFor : (identities slots : ℕ) → Bool
 roomFor identities slots = pick (eqb (identities % 8) 0) (pick (eqb (slots % 8) 0) (not (ltb slots identities)) false) false
 
