@@ -7,3 +7,4 @@ pub mod CallLaws
 pub mod OpenLaws
 pub mod BlockLaws
 pub mod Place
+pub mod PlaceLaws

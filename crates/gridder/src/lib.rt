@@ -23,16 +23,20 @@
 //     40  global slot
 //     48  words, of RANGE
 //     56  1 where a search met the identity, 0 where it met a vacancy
+//     64  placed: the identities that have their slot
 //
-// and kept for the calls to come: 64 placed, 72 position, 80 mapped, 88 gap, 96 byte place, 104 label offset, 112 label length,
+// and kept for the calls to come: 72 position, 80 mapped, 88 gap, 96 byte place, 104 label offset, 112 label length,
 // 120 image length.
 //
 //     state.rt    the state block
 //     answer.rt   the answer block
 //     funnels.rt  the exported calls: open, search, insert
+//     placing.rt  the exported call that places many identities
 //
-// specs/State.antt and Answer.antt say what the blocks hold, Calls.antt what each call answers and leaves.
+// specs/State.antt and Answer.antt say what the blocks hold, Calls.antt and Place.antt what each
+// call answers and leaves.
 
 pub mod answer;
 pub mod funnels;
+pub mod placing;
 pub mod state;
