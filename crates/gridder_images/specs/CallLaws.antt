@@ -16,13 +16,13 @@ use Rattle.geometry.specs.declared.config.Gated.{Gated}
 use Rattle.geometry.specs.declared.config.Gated.the-variants.{Passed, Refused}
 use Rattle.funnel.specs.Calls.{gateThen}
 use Rattle.funnel.specs.declared.table.FunnelTable.{FunnelTable}
-use Rattle.image.specs.CallLaws.{Writable, gate-writable}
-use Rattle.image.specs.Calls.{writeGate, writtenReport}
+use Rattle.image_calls.specs.CallLaws.{Writable, gate-writable}
+use Rattle.image_calls.specs.Calls.{writeGate, writtenReport}
 use Rattle.image.specs.Format.{labelMost}
-use Rattle.image.specs.Loading.{loads, loadOf}
-use Rattle.image.specs.declared.loader.Filled.{Filled}
-use Rattle.image.specs.declared.loader.Filled.the-variants as filled
-use Rattle.image.specs.declared.writer.Written.{Written}
+use Rattle.image_calls.specs.Loading.{loads, loadOf}
+use Rattle.image_calls.specs.declared.loader.Filled.{Filled}
+use Rattle.image_calls.specs.declared.loader.Filled.the-variants as filled
+use Rattle.image_calls.specs.declared.writer.Written.{Written}
 use Rattle.lent.specs.Lent.{wordsOf, wordCount}
 use Rattle.lent.specs.LentLaws.{count-some}
 use Rattle.gridder.specs.Answer.{answerLength, says, saying, Reply, reply}

@@ -13,10 +13,10 @@ use Rattle.geometry.specs.declared.config.Gated.{Gated}
 use Rattle.geometry.specs.declared.config.Gated.the-variants.{Passed, Refused}
 use Rattle.funnel.specs.Calls.{gateThen}
 use Rattle.funnel.specs.declared.table.FunnelTable.{FunnelTable}
-use Rattle.image.specs.Calls.{writeGate, loadedOf, loadedReport, writtenReport}
-use Rattle.image.specs.Loading.{Loads, loadOf}
-use Rattle.image.specs.declared.loader.Filled.{Filled}
-use Rattle.image.specs.declared.loader.Filled.the-variants as filled
+use Rattle.image_calls.specs.Calls.{writeGate, loadedOf, loadedReport, writtenReport}
+use Rattle.image_calls.specs.Loading.{Loads, loadOf}
+use Rattle.image_calls.specs.declared.loader.Filled.{Filled}
+use Rattle.image_calls.specs.declared.loader.Filled.the-variants as filled
 use Rattle.lent.specs.Lent.{wordsOf, wordCount}
 use Rattle.gridder.specs.Answer.{answerLength, says, saying}
 use Rattle.gridder.specs.Calls.{stateGate, Left, left}

@@ -8,14 +8,14 @@ use lib.ListN.{length, set, replicate, length-set, length-replicate}
 use lib.Seq.{sets, length-sets}
 use Rattle.words.specs.Bytes.{bytesOf, numAt}
 use Rattle.image.specs.Cursor.{outcomeOf}
-use Rattle.image.specs.Fill.{Fills, Fits, isGood, slotsIn, entriesIn}
-use Rattle.image.specs.FillLaws.{Filling, filling-none, filling-slot, filling-more, filling-end}
+use Rattle.image_calls.specs.Fill.{Fills, Fits, isGood, slotsIn, entriesIn}
+use Rattle.image_calls.specs.FillLaws.{Filling, filling-none, filling-slot, filling-more, filling-end}
 use Rattle.image.specs.Format.{entrySize}
-use Rattle.image.specs.Loading.{ofTable, loads, loadOf}
-use Rattle.image.specs.LoadingLaws.{Onward, onward-none, onward-five, onward-other, slots-are, loads-done}
+use Rattle.image_calls.specs.Loading.{ofTable, loads, loadOf}
+use Rattle.image_calls.specs.LoadingLaws.{Onward, onward-none, onward-five, onward-other, slots-are, loads-done}
 use Rattle.image.specs.Reading.{frameOf, lowAfter, entriesAt, readOf}
 use Rattle.image.specs.declared.field.Framed.the-variants.{Field}
-use Rattle.image.specs.declared.loader.Filled.the-variants as filled
+use Rattle.image_calls.specs.declared.loader.Filled.the-variants as filled
 use Rattle.image.specs.declared.reader.Head.{Head}
 use Rattle.image.specs.declared.reader.Outcome.the-variants.{Good}
 use Rattle.lent.specs.Lent.{wordsOf}

@@ -3,10 +3,10 @@ use mathlib.Core.List.{List, [], _∷_}
 use Prim.Native.Nat.{ℕ}
 use Rattle.refusal.specs.Table.{numberOf}
 use Rattle.refusal.specs.declared.Name.the-variants as name
-use Rattle.image.specs.declared.loader.Filled.{Filled}
-use Rattle.image.specs.declared.loader.Filled.the-variants as filled
-use Rattle.image.specs.declared.writer.Written.{Written}
-use Rattle.image.specs.declared.writer.Written.the-variants as written
+use Rattle.image_calls.specs.declared.loader.Filled.{Filled}
+use Rattle.image_calls.specs.declared.loader.Filled.the-variants as filled
+use Rattle.image_calls.specs.declared.writer.Written.{Written}
+use Rattle.image_calls.specs.declared.writer.Written.the-variants as written
 use Rattle.gridder.specs.Answer.{Field, field, slotAt}
 
 -- ---- the offsets

@@ -6,10 +6,10 @@ use lib.ListN.{replicate}
 use lib.Seq.{sets}
 use Rattle.words.specs.Bytes.{bytesOf}
 use Rattle.funnel.specs.declared.table.FunnelTable.{FunnelTable}
-use Rattle.image.specs.Calls.{loadedOf, loadedReport, writtenReport}
-use Rattle.image.specs.declared.loader.Filled.{Filled}
-use Rattle.image.specs.declared.loader.Filled.the-variants as filled
-use Rattle.image.specs.declared.writer.Written.{Written}
+use Rattle.image_calls.specs.Calls.{loadedOf, loadedReport, writtenReport}
+use Rattle.image_calls.specs.declared.loader.Filled.{Filled}
+use Rattle.image_calls.specs.declared.loader.Filled.the-variants as filled
+use Rattle.image_calls.specs.declared.writer.Written.{Written}
 use Rattle.gridder.specs.Answer.{answerLength, field, stored, says, reply}
 use Rattle.gridder_images.specs.Say.{filledFields, filledNumber, writtenFields}
 

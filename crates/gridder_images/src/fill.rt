@@ -5,7 +5,7 @@ ghost use Prim.Native.Nat.{_+_, _*_, _≤_};
 ghost use lib.ListN.{length};
 ghost use Rattle.image.specs.Format.{entrySize};
 ghost use Rattle.image.specs.Reading.{entriesAt, readOf};
-ghost use Rattle.image.specs.Fill.{isGood, slotsIn, entriesIn, Fills, Fits};
+ghost use Rattle.image_calls.specs.Fill.{isGood, slotsIn, entriesIn, Fills, Fits};
 ghost use Rattle.lent.specs.Lent.{wordsOf};
 use image::field::ENTRY_SIZE;
 use image::field::Framed;

@@ -2,14 +2,14 @@
 ghost use mathlib.Core.Path.{_≡_};
 ghost use Prim.Native.Nat.{_*_};
 ghost use lib.ListN.{length};
-ghost use Rattle.image.specs.Loading.{loads, loadOf};
+ghost use Rattle.image_calls.specs.Loading.{loads, loadOf};
 ghost use Rattle.lent.specs.Lent.{wordsOf};
 use crate::fill::fill_image;
 use funnel::table::FunnelTable;
-use image::loader::Filled;
-use image::loader::own;
 use image::reader::Outcome;
 use image::reader::read;
+use image_calls::loader::Filled;
+use image_calls::loader::own;
 use words::clear::clear_bytes;
 
 // The buffers of a table, which have its length, from an image of it.

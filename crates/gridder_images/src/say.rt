@@ -1,11 +1,11 @@
 // What the calls on images say, in the answer block of crate gridder.
 ghost use mathlib.Core.Path.{_≡_};
 ghost use lib.ListN.{length};
-ghost use Rattle.image.specs.Calls.{writtenReport};
+ghost use Rattle.image_calls.specs.Calls.{writtenReport};
 ghost use Rattle.gridder.specs.Answer.{says, reply};
 ghost use Rattle.gridder_images.specs.Say.{filledFields, filledNumber, writtenFields};
-use image::loader::Filled;
-use image::writer::Written;
+use image_calls::loader::Filled;
+use image_calls::writer::Written;
 use refusal::Name;
 use refusal::gate_name;
 use refusal::number;

@@ -1,6 +1,6 @@
 -- `gridder_images::fill::fill_image` meets its contract. The loop's invariant: what is read from here on is right, and the buffers hold the entries before it. The
 -- measure is what is left of the image. Assumes nothing.
-use Rattle.image.specs.LoadingLaws.{onward-wrong, onward-sizes, onward-framing, onward-last, onward-fits}
+use Rattle.image_calls.specs.LoadingLaws.{onward-wrong, onward-sizes, onward-framing, onward-last, onward-fits}
 use Rattle.gridder_images.specs.FillLaws.{OnwardLent, onto-none, onto-five, onto-other}
 use lib.ListN.{length}
 use borrow.Author.Needs.{needs}

@@ -2,7 +2,7 @@
 use denote.Ref.{now}
 use mathlib.Core.Path.{sym, _∙_}
 use borrow.Author.Tests.{not-true, not-false}
-use Rattle.image.specs.LoadingLaws.{loads-bad, loads-foreign, good-is}
+use Rattle.image_calls.specs.LoadingLaws.{loads-bad, loads-foreign, good-is}
 use Rattle.gridder_images.specs.FillLaws.{lent-done, lent-room}
 use borrow.Author.Needs.{needs}
 use Rattle.gridder_images.proofs.load.load.Statement.{statement}
