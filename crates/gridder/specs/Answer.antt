@@ -12,6 +12,8 @@ use Rattle.funnel.specs.declared.table.Search.{Search}
 use Rattle.funnel.specs.declared.table.Search.the-variants as search
 use Rattle.funnel.specs.declared.table.Insertion.{Insertion}
 use Rattle.funnel.specs.declared.table.Insertion.the-variants as insertion
+use Rattle.funnel.specs.declared.table.Placement.{Placement}
+use Rattle.funnel.specs.declared.table.Placement.the-variants as placement
 
 -- "a lent 128-byte block"
 abbrev pub answerLength : ℕ
@@ -88,6 +90,13 @@ insertionFields (insertion.Range refusal) = field wordsAt (refusal .words) ∷ [
 insertionFields (insertion.Duplicate probes place) = field probesAt probes ∷ placeFields place
 insertionFields (insertion.Exhausted probes) = field probesAt probes ∷ []
 insertionFields (insertion.Full probes) = field probesAt probes ∷ []
+
+-- how many of so many identities have their slot, and what the first refusal carries
+abbrev pub placementFields : Placement → ℕ → List Field
+placementFields placement.All total = field placedAt total ∷ []
+placementFields (placement.Range index refusal) total = field placedAt index ∷ field wordsAt (refusal .words) ∷ []
+placementFields (placement.Exhausted index probes) total = field placedAt index ∷ field probesAt probes ∷ []
+placementFields (placement.Full index probes) total = field placedAt index ∷ field probesAt probes ∷ []
 
 -- what a call answers: the number of its refusal, 0 where there is none, and the answer block
 pub record Reply : Type 0 where

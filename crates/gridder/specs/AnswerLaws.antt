@@ -7,10 +7,11 @@ use lib.Seq.{sets}
 use borrow.Author.Tests.{eq-eqb, ne-eqb}
 use Rattle.words.specs.Bytes.{bytesOf}
 use Rattle.words.specs.declared.place.Place.{Place}
-use Rattle.funnel.specs.Calls.{searchReport, insertionReport}
+use Rattle.funnel.specs.Calls.{searchReport, insertionReport, placementReport}
 use Rattle.funnel.specs.declared.table.Search.{Search}
 use Rattle.funnel.specs.declared.table.Insertion.{Insertion}
-use Rattle.gridder.specs.Answer.{answerLength, Field, field, stored, says, placeFields, searchFields, insertionFields, Reply, reply, saying}
+use Rattle.funnel.specs.declared.table.Placement.{Placement}
+use Rattle.gridder.specs.Answer.{answerLength, Field, field, stored, says, placeFields, searchFields, insertionFields, placementFields, Reply, reply, saying}
 
 pub reply-is : (m n : ℕ) (a b : List ℕ) → m ≡ n → a ≡ b → reply m a ≡ reply n b
 reply-is m n a b e f = rw (e, f)
@@ -37,6 +38,10 @@ module _ (n : ℕ) (zeros : List ℕ) (long : n ≡ answerLength) (cleared : zer
   unfolding says stored
   said-one at x a e = e ∙ rw (cleared, long)
 
+  pub said-both : (at x to y : ℕ) (a b : List ℕ) → a ≡ sets zeros at (bytesOf 8 x) → b ≡ sets a to (bytesOf 8 y) → b ≡ says (field at x ∷ field to y ∷ [])
+  unfolding says stored
+  said-both at x to y a b e f = f ∙ rw (e, cleared, long)
+
   pub said-place : (at x : ℕ) (p : Place) (a b : List ℕ) → a ≡ sets zeros at (bytesOf 8 x) → b ≡ stored a (placeFields p) → b ≡ says (field at x ∷ placeFields p)
   unfolding says stored
   said-place at x p a b e f = f ∙ rw (e, cleared, long)
@@ -46,7 +51,7 @@ module _ (n : ℕ) (zeros : List ℕ) (long : n ≡ answerLength) (cleared : zer
   unfolding says stored
   said-two at x to y p a b d e f g = g ∙ rw (f, e, cleared, long)
 
--- ---- what a search and an insertion say, by their answer
+-- ---- what a search, an insertion and a placement say, by their answer
 
 module _ (found : Search) (n : ℕ) (a : List ℕ) where
   pub search-says : (x : Search) → found ≡ x → n ≡ searchReport x .number → a ≡ says (searchFields x) → reply n a ≡ reply (searchReport found .number) (says (searchFields found))
@@ -56,3 +61,8 @@ module _ (done : Insertion) (n : ℕ) (a : List ℕ) where
   pub insertion-says : (x : Insertion) → done ≡ x → n ≡ insertionReport x .number → a ≡ says (insertionFields x)
       → reply n a ≡ reply (insertionReport done .number) (says (insertionFields done))
   insertion-says x e p q = rw (e, p, q)
+
+module _ (done : Placement) (total n : ℕ) (a : List ℕ) where
+  pub placement-says : (x : Placement) → done ≡ x → n ≡ placementReport x .number → a ≡ says (placementFields x total)
+      → reply n a ≡ reply (placementReport done .number) (says (placementFields done total))
+  placement-says x e p q = rw (e, p, q)

@@ -12,8 +12,8 @@ use borrow.Author.Tests.{eq-eqb, lt-ltb}
 use Rattle.words.specs.Bytes.{bytesOf, numAt}
 use Rattle.words.specs.BytesLaws.{sets-append, length-bytes, num-sets, num-stored}
 use Rattle.funnel.specs.declared.table.FunnelTable.{FunnelTable}
-use Rattle.gridder.specs.Lent.{wordsFrom, lent}
-use Rattle.gridder.specs.LentLaws.{length-from, from-at, length-lent}
+use Rattle.lent.specs.Lent.{wordsFrom, lent}
+use Rattle.lent.specs.LentLaws.{length-from, from-at, length-lent}
 use Rattle.gridder.specs.State.{stateLength, funnelKind, countsAt, holdsFunnel, planIn, tableIn, countsIn, tableWords, funnelBlock}
 use Rattle.gridder.specs.StateLaws.{holds-kind}
 

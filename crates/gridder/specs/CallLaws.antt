@@ -26,10 +26,10 @@ use Rattle.funnel.specs.declared.table.Insertion.{Insertion}
 use Rattle.funnel.specs.declared.table.Insertion.the-variants as insertion
 use Rattle.gridder.specs.Answer.{answerLength, says, saying, searchFields, insertionFields, Reply, reply}
 use Rattle.gridder.specs.Calls.{callGate, stateGate, searchReply, searchCall, left, countedIn, insertLeft, insertCall}
-use Rattle.gridder.specs.Lent.{wordsOf, wordCount}
-use Rattle.gridder.specs.LentLaws.{length-whole, count-some}
+use Rattle.lent.specs.Lent.{wordsOf, wordCount}
+use Rattle.lent.specs.LentLaws.{length-whole, count-some}
 use Rattle.gridder.specs.State.{holdsFunnel, tableIn, countsIn, withCountIn}
-use Rattle.gridder.specs.Valid.{ValidLent}
+use Rattle.lent.specs.Valid.{ValidLent}
 
 -- ---- the gate
 
@@ -47,7 +47,7 @@ module _ (table : FunnelTable) (counts : List ℕ) (words flags answer : ℕ) (r
   call-passed h e = let f : tableGate table counts words flags ≡ Passed = sym is ∙ h in sym (rw (f, eq-eqb _ _ e))
 
 -- a table that passes by the number of its words is valid with these words
-lent-valid : (table : FunnelTable) (counts words flags : List ℕ) → tableGate table counts (wordCount (length words)) (length flags) ≡ Passed → ValidLent table counts words flags
+pub lent-valid : (table : FunnelTable) (counts words flags : List ℕ) → tableGate table counts (wordCount (length words)) (length flags) ≡ Passed → ValidLent table counts words flags
 lent-valid table counts words flags h =
     let l : length (replicate {A = ℕ} (wordCount (length words)) 0) ≡ wordCount (length words) = length-replicate (wordCount (length words)) 0 in
     let v : Valid table counts (replicate (wordCount (length words)) 0) flags = gate-valid table counts (replicate (wordCount (length words)) 0) flags (rw l h) in
@@ -72,7 +72,7 @@ pub record Ready (table : FunnelTable) (counts words flags answer : List ℕ) : 
   pub lent : ValidLent table counts words flags
   pub room : length answer ≡ answerLength
 
-ready : (table : FunnelTable) (counts words flags answer : List ℕ) → callGate table counts (wordCount (length words)) (length flags) (length answer) ≡ Passed
+pub ready : (table : FunnelTable) (counts words flags answer : List ℕ) → callGate table counts (wordCount (length words)) (length flags) (length answer) ≡ Passed
     → Ready table counts words flags answer
 unfolding callGate
 ready table counts words flags answer h =
@@ -104,7 +104,7 @@ module _ (state words flags answer : List ℕ) (table : FunnelTable) (counts : L
   pub gate-ready : g ≡ Passed → Ready table counts words flags answer
   gate-ready p = ready table counts words flags answer (let h : callGate table counts entries (length flags) (length answer) ≡ Passed = sym is ∙ p in rw (← w) h)
 
-  gate-of : g ≡ stateGate state words flags answer
+  pub gate-of : g ≡ stateGate state words flags answer
   gate-of = is ∙ rw (t, k, w)
 
   module _ (held : holdsFunnel state ≡ true) (identity number : ℕ) (answer' : List ℕ) where

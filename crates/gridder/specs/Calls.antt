@@ -23,7 +23,7 @@ use Rattle.funnel.specs.declared.table.Search.{Search}
 use Rattle.funnel.specs.declared.table.Insertion.{Insertion}
 use Rattle.funnel.specs.declared.table.Insertion.the-variants as insertion
 use Rattle.gridder.specs.Answer.{answerLength, says, saying, searchFields, insertionFields, Reply, reply}
-use Rattle.gridder.specs.Lent.{wordsOf, wordCount}
+use Rattle.lent.specs.Lent.{wordsOf, wordCount}
 use Rattle.gridder.specs.State.{stateLength, holdsFunnel, tableIn, countsIn, funnelBlock, withCountIn}
 
 -- ---- the gate: "a block of another length .. is STATE, tested with the other buffers"

@@ -1,14 +1,9 @@
-pub mod Lent
-pub mod LentLaws
-pub mod Valid
 pub mod State
-pub mod Answer
-pub mod ValidLaws
 pub mod StateLaws
+pub mod Answer
 pub mod AnswerLaws
 pub mod Calls
 pub mod CallLaws
-pub mod PutLaws
 pub mod OpenLaws
 pub mod BlockLaws
 pub mod Place

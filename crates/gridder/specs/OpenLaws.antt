@@ -26,8 +26,8 @@ use Rattle.funnel.specs.Calls.{gateThen, openGate}
 use Rattle.gridder.specs.Answer.{answerLength, saying, says, Reply, reply}
 use Rattle.gridder.specs.AnswerLaws.{says-none}
 use Rattle.gridder.specs.Calls.{openBlocksGate, openSaying, fresh, OpensBy, OpensLent}
-use Rattle.gridder.specs.Lent.{wordCount}
-use Rattle.gridder.specs.LentLaws.{count-some}
+use Rattle.lent.specs.Lent.{wordCount}
+use Rattle.lent.specs.LentLaws.{count-some}
 use Rattle.gridder.specs.State.{stateLength, funnelBlock}
 
 -- ---- the gate, test by test

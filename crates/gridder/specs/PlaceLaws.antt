@@ -1,132 +1,131 @@
--- The placement of many identities over bytes, as a loop makes it: what is left gives what the whole gives. Assumes nothing.
-use mathlib.Core.List.{List}
+-- Laws of the exported placement, by what its gate said. Assumes nothing.
+use mathlib.Core.Bool.{Bool, true, false, not}
+use mathlib.Core.List.{List, []}
 use mathlib.Core.Path.{_≡_, refl, ap, sym, _∙_}
-use Prim.Native.Nat.{ℕ, _+_, _*_, _/_, _%_, _^_, _≤_, _<_}
-use native.Mathlib.Numerals.{add-one}
+use Prim.Native.Nat.{ℕ, _/_, _%_, _≤_}
 use native.Mathlib.Omega.{arith}
-use lib.ListN.{length, drop, getD, set}
-use lib.Seq.{sets, length-sets, drop-cons, drop-length}
-use Rattle.words.specs.Bytes.{bytesOf}
-use Rattle.words.specs.declared.place.Place.{Place}
-use Rattle.refusal.specs.declared.RangeRefusal.{RangeRefusal}
-use Rattle.geometry.specs.FunnelLaws.{plan-facts}
-use Rattle.funnel.specs.Insert.{Done, done, withCount, stepped, insertOf, Placed, placed, placeOn, placeFrom, placeAllOf}
-use Rattle.funnel.specs.InsertLaws.{inserted-facts}
-use Rattle.funnel.specs.Path.{slotOf}
-use Rattle.funnel.specs.PlaceLaws.{valid-after}
+use lib.Dec.{eqb, leb}
+use lib.ListN.{length}
+use borrow.Author.Tests.{eq-eqb, ne-eqb, eqb-true, leb-true}
+use Rattle.words.specs.Pick.{pick}
+use Rattle.refusal.specs.Table.{numberOf, nameOf}
+use Rattle.refusal.specs.declared.Gate.{Gate}
+use Rattle.refusal.specs.declared.Gate.the-variants as gate
+use Rattle.refusal.specs.declared.Name.the-variants as name
+use Rattle.geometry.specs.Config.{refuseIf}
+use Rattle.geometry.specs.declared.config.Gated.{Gated}
+use Rattle.geometry.specs.declared.config.Gated.the-variants.{Passed, Refused}
+use Rattle.funnel.specs.Calls.{gateThen, placementReport}
+use Rattle.funnel.specs.Insert.{placed, placeAllOf}
 use Rattle.funnel.specs.declared.table.FunnelTable.{FunnelTable}
-use Rattle.funnel.specs.declared.table.Insertion.{Insertion}
-use Rattle.funnel.specs.declared.table.Insertion.the-variants as insertion
 use Rattle.funnel.specs.declared.table.Placement.{Placement}
-use Rattle.funnel.specs.declared.table.Placement.the-variants as placement
-use Rattle.gridder.specs.Lent.{wordsOf}
-use Rattle.gridder.specs.LentLaws.{length-words, words-set}
-use Rattle.gridder.specs.Place.{LentRoom}
-use Rattle.gridder.specs.Valid.{ValidLent}
+use Rattle.lent.specs.Lent.{wordsOf, wordCount}
+use Rattle.lent.specs.Valid.{LentRoom}
+use Rattle.gridder.specs.Answer.{says, saying, placementFields, Reply, reply}
+use Rattle.gridder.specs.Calls.{callGate}
+use Rattle.gridder.specs.CallLaws.{Ready, ready}
+use Rattle.gridder.specs.Place.{roomFor, placeCallGate, allLeft, placeLeft, placeCall}
+use Rattle.gridder.specs.State.{holdsFunnel, tableIn, countsIn, withCountIn}
 
-module _ (table : FunnelTable) (counts words₀ flags₀ identities slots₀ : List ℕ) where
-  -- what all of it leaves
-  abbrev whole : Placed
-  whole = placeAllOf table counts (wordsOf words₀) flags₀ (wordsOf identities) (wordsOf slots₀)
+-- ---- room for the slots
 
-  pub record PlacingLent (words flags slots : List ℕ) (count i : ℕ) : Type 0 where
-    pub left : whole ≡ placeFrom (withCount table count) counts (wordsOf words) flags (drop i (wordsOf identities)) (wordsOf slots) i
-    pub valid : ValidLent table counts words flags
-    pub most : count ≤ table .n
-    pub within : i * 8 ≤ length identities
-    pub room : LentRoom identities slots
-    pub same-words : length words ≡ length words₀
-    pub same-flags : length flags ≡ length flags₀
-    pub same-slots : length slots ≡ length slots₀
+module _ (identities slots : ℕ) where
+  pub room-broken : (identities % 8 ≡ 0 → ⊥) → false ≡ roomFor identities slots
+  unfolding roomFor
+  room-broken n = sym (rw (ne-eqb _ _ n))
 
-  pub placing-none : ValidLent table counts words₀ flags₀ → LentRoom identities slots₀ → PlacingLent words₀ flags₀ slots₀ (table .count) 0
-  placing-none v l =
-      record {
-        left = refl;
-        valid = v;
-        most = v .valid .counted;
-        within = omega arith;
-        room = l;
-        same-words = refl;
-        same-flags = refl;
-        same-slots = refl;
-      }
+  module _ (w : identities % 8 ≡ 0) where
+    pub room-broken-slots : (slots % 8 ≡ 0 → ⊥) → false ≡ roomFor identities slots
+    unfolding roomFor
+    room-broken-slots n = sym (rw (eq-eqb _ _ w, ne-eqb _ _ n))
 
-  module _ {words flags slots : List ℕ} {count i : ℕ} (p : PlacingLent words flags slots count i) where
-    module _ (h : i < length identities / 8) (identity : ℕ) (is : identity ≡ getD (wordsOf identities) i 0) (r : Insertion) (w f : List ℕ) (kept : length w ≡ length words)
-        (e : done r (stepped r (withCount table count)) (wordsOf w) f ≡ insertOf (withCount table count) counts (wordsOf words) flags identity) where
-      place-step : whole
-          ≡ placeOn r (done r (stepped r (withCount table count)) (wordsOf w) f) (wordsOf slots) i
-          (λ s. placeFrom (stepped r (withCount table count)) counts (wordsOf w) f (drop (i + 1) (wordsOf identities)) s (i + 1))
-      unfolding placeFrom
-      place-step =
-          let l : i < length (wordsOf identities) = omega (arith, length-words identities) in
-          p .left ∙ rw (drop-cons (wordsOf identities) i 0 l, ← is, ← e, add-one i)
+    pub room-whole : slots % 8 ≡ 0 → leb identities slots ≡ roomFor identities slots
+    unfolding roomFor
+    room-whole s = sym (rw (eq-eqb _ _ w, eq-eqb _ _ s))
 
-      still : ValidLent table counts w f
-      still =
-          record {
-            valid = valid-after (p .valid .valid) count identity r _ (wordsOf w) f e;
-            whole = kept ∙ p .valid .whole;
-          }
+room-facts : (identities slots : List ℕ) → roomFor (length identities) (length slots) ≡ true → LentRoom identities slots
+unfolding roomFor
+room-facts identities slots h =
+    go (eqb (length identities % 8) 0) (eqb (length slots % 8) 0) (leb (length identities) (length slots)) refl refl refl h
+  where
+    no : false ≡ true → ⊥
+    no e = let z : _≡_ {A = ℕ} 0 1 = cc in omega arith
 
-      pub placing-lengths : (length w ≡ length words₀) × (length f ≡ length flags₀)
-      placing-lengths = (kept ∙ p .same-words, still .valid .flags-length ∙ sym (p .valid .valid .flags-length) ∙ p .same-flags)
+    go : (x y z : Bool) → eqb (length identities % 8) 0 ≡ x → eqb (length slots % 8) 0 ≡ y → leb (length identities) (length slots) ≡ z → pick x (pick y z false) false ≡ true
+        → LentRoom identities slots
+    go false y z p q r h = absurd (no h)
+    go true false z p q r h = absurd (no h)
+    go true true z p q r h = record { whole = eqb-true _ _ p; whole-slots = eqb-true _ _ q; room = leb-true _ _ (r ∙ h) }
 
-      module _ (slot : ℕ) (small : slot < 2 ^ 64) (s : List ℕ) (stored : s ≡ sets slots (i * 8) (bytesOf 8 slot)) where
-        slots-long : length s ≡ length slots
-        slots-long = ap length stored ∙ length-sets slots (i * 8) (bytesOf 8 slot)
+-- ---- the gate
 
-        slots-set : wordsOf s ≡ set (wordsOf slots) i slot
-        slots-set = let a = p .room .room in rw stored (words-set slots i slot (omega arith) small)
+module _ (table : FunnelTable) (counts : List ℕ) (words flags identities slots answer : ℕ) (r : Gated) (is : r ≡ callGate table counts words flags answer) where
+  pub place-gate-refused : (g : Gate) → r ≡ Refused g → Refused g ≡ placeCallGate table counts words flags identities slots answer
+  unfolding placeCallGate
+  place-gate-refused g h = let f : callGate table counts words flags answer ≡ Refused g = sym is ∙ h in sym (rw f)
 
-        placing-next : (more : ℕ) → more ≤ table .n
-            → whole ≡ placeFrom (withCount table more) counts (wordsOf w) f (drop (i + 1) (wordsOf identities)) (set (wordsOf slots) i slot) (i + 1)
-            → PlacingLent w f s more (i + 1)
-        placing-next more m q =
-            let a = p .room .whole in
-            let b = p .room .whole-slots in
-            let d = p .room .room in
-            let l = slots-long in
-            record {
-              left = rw slots-set q;
-              valid = still;
-              most = m;
-              within = omega arith;
-              room = record { whole = a; whole-slots = rw l b; room = omega arith };
-              same-words = placing-lengths .0;
-              same-flags = placing-lengths .1;
-              same-slots = l ∙ p .same-slots;
-            }
+  module _ (h : r ≡ Passed) (b : Bool) (room : b ≡ roomFor identities slots) where
+    pub place-gate-narrow : b ≡ false → Refused gate.State ≡ placeCallGate table counts words flags identities slots answer
+    unfolding placeCallGate
+    place-gate-narrow n = let f : callGate table counts words flags answer ≡ Passed = sym is ∙ h in sym (rw (f, ← room, n))
 
-        pub placing-inserted : (k : ℕ) (at : Place) → r ≡ insertion.Inserted k at → slot ≡ slotOf at → (count < table .n) × PlacingLent w f s (count + 1) (i + 1)
-        placing-inserted k at g o =
-            let a : insertOf (withCount table count) counts (wordsOf words) flags identity .answer ≡ insertion.Inserted k at = sym (ap (λ (d : Done). d .answer) e) ∙ g in
-            let l = inserted-facts (withCount table count) counts (wordsOf words) flags identity k at a .left in
-            let m = plan-facts (p .valid .valid .planned) in
-            let b : count < table .n = omega arith in
-            (b, placing-next (count + 1) (omega arith) (place-step ∙ rw (g, o)))
+    pub place-gate-passed : b ≡ true → Passed ≡ placeCallGate table counts words flags identities slots answer
+    unfolding placeCallGate
+    place-gate-passed n = let f : callGate table counts words flags answer ≡ Passed = sym is ∙ h in sym (rw (f, ← room, n))
 
-        pub placing-duplicate : (k : ℕ) (at : Place) → r ≡ insertion.Duplicate k at → slot ≡ slotOf at → PlacingLent w f s count (i + 1)
-        placing-duplicate k at g o = placing-next count (p .most) (place-step ∙ rw (g, o))
+-- what it says that a placement's gate passed
+pub record PlaceReady (table : FunnelTable) (counts words flags identities slots answer : List ℕ) : Type 0 where
+  pub call : Ready table counts words flags answer
+  pub room : LentRoom identities slots
 
-      pub placing-range : (refusal : RangeRefusal) → r ≡ insertion.Range refusal → placed (placement.Range i refusal) (withCount table count) (wordsOf w) f (wordsOf slots) ≡ whole
-      placing-range refusal g = sym (place-step ∙ rw g)
+place-ready : (table : FunnelTable) (counts words flags identities slots answer : List ℕ)
+    → placeCallGate table counts (wordCount (length words)) (length flags) (length identities) (length slots) (length answer) ≡ Passed
+    → PlaceReady table counts words flags identities slots answer
+unfolding placeCallGate
+place-ready table counts words flags identities slots answer h =
+    go (callGate table counts (wordCount (length words)) (length flags) (length answer)) (roomFor (length identities) (length slots)) refl refl h
+  where
+    go : (a : Gated) (b : Bool) → callGate table counts (wordCount (length words)) (length flags) (length answer) ≡ a → roomFor (length identities) (length slots) ≡ b
+        → gateThen a (refuseIf (not b) gate.State Passed) ≡ Passed → PlaceReady table counts words flags identities slots answer
+    go (Refused g) b p q h = let z : _≡_ {A = ℕ} 0 1 = cc in absurd (omega arith)
+    go Passed false p q h = let z : _≡_ {A = ℕ} 0 1 = cc in absurd (omega arith)
+    go Passed true p q h = record { call = ready table counts words flags answer p; room = room-facts identities slots q }
 
-      pub placing-exhausted : (k : ℕ) → r ≡ insertion.Exhausted k → placed (placement.Exhausted i k) (withCount table count) (wordsOf w) f (wordsOf slots) ≡ whole
-      placing-exhausted k g = sym (place-step ∙ rw g)
+-- ---- the call on a block that holds a state
 
-      pub placing-full : (k : ℕ) → r ≡ insertion.Full k → placed (placement.Full i k) (withCount table count) (wordsOf w) f (wordsOf slots) ≡ whole
-      placing-full k g = sym (place-step ∙ rw g)
+module _ (state words flags identities slots answer : List ℕ) (table : FunnelTable) (counts : List ℕ) (entries : ℕ)
+    (t : table ≡ tableIn state) (k : counts ≡ countsIn state) (w : entries ≡ wordCount (length words))
+    (g : Gated) (is : g ≡ placeCallGate table counts entries (length flags) (length identities) (length slots) (length answer)) where
+  pub placement-ready : g ≡ Passed → PlaceReady table counts words flags identities slots answer
+  placement-ready p =
+      place-ready table counts words flags identities slots answer
+      (let h : placeCallGate table counts entries (length flags) (length identities) (length slots) (length answer) ≡ Passed = sym is ∙ p in rw (← w) h)
 
-    pub placing-all : length identities / 8 ≤ i → placed placement.All (withCount table count) (wordsOf words) flags (wordsOf slots) ≡ whole
-    unfolding placeFrom
-    placing-all h =
-        let a = p .within in
-        let b = p .room .whole in
-        let z : i ≡ length (wordsOf identities) = omega (arith, length-words identities) in
-        sym (p .left ∙ rw (z, drop-length (wordsOf identities)))
+  gate-of : g ≡ placeCallGate (tableIn state) (countsIn state) (wordCount (length words)) (length flags) (length identities) (length slots) (length answer)
+  gate-of = is ∙ rw (t, k, w)
 
--- the table that is left, by an equal one
-pub placed-table : (a : Placement) (t u : FunnelTable) (words flags slots : List ℕ) (x : Placed) → u ≡ t → placed a t words flags slots ≡ x → placed a u words flags slots ≡ x
-placed-table a t u words flags slots x e h = rw e h
+  module _ (held : holdsFunnel state ≡ true) (number : ℕ) (answer' : List ℕ) where
+    pub placement-refused : (x : Gate) → g ≡ Refused x → reply number answer' ≡ reply (numberOf (nameOf x)) (saying answer [])
+        → allLeft number answer' state (wordsOf words) flags (wordsOf slots) ≡ placeCall state words flags identities slots answer
+    unfolding placeCall placeLeft
+    placement-refused x p e =
+        let n : number ≡ numberOf (nameOf x) = ap (λ (r : Reply). r .number) e in
+        let a : answer' ≡ saying answer [] = ap (λ (r : Reply). r .answer) e in
+        rw (n, a) (sym (rw (held, ← gate-of, p)))
+
+    pub placement-passed : (d : Placement) (after : FunnelTable) (state' words' flags' slots' : List ℕ) → g ≡ Passed
+        → placed d after words' flags' slots' ≡ placeAllOf table counts (wordsOf words) flags (wordsOf identities) (wordsOf slots)
+        → state' ≡ withCountIn state (after .count)
+        → reply number answer' ≡ reply (placementReport d .number) (says (placementFields d (length identities / 8)))
+        → allLeft number answer' state' words' flags' slots' ≡ placeCall state words flags identities slots answer
+    unfolding placeCall placeLeft
+    placement-passed d after state' words' flags' slots' p i s e =
+        let n : number ≡ placementReport d .number = ap (λ (r : Reply). r .number) e in
+        let a : answer' ≡ says (placementFields d (length identities / 8)) = ap (λ (r : Reply). r .answer) e in
+        rw (n, a, s) (sym (rw (held, ← gate-of, p, ← t, ← k, ← i)))
+
+-- a block that holds no state
+pub placement-unheld : (state words flags identities slots answer : List ℕ) (number : ℕ) → holdsFunnel state ≡ false → number ≡ numberOf name.State
+    → allLeft number answer state (wordsOf words) flags (wordsOf slots) ≡ placeCall state words flags identities slots answer
+unfolding placeCall
+placement-unheld state words flags identities slots answer number h e = sym (rw (h, e))

@@ -9,7 +9,7 @@ use Rattle.words.specs.Bytes.{bytesOf, numAt}
 use Rattle.words.specs.Pick.{pick}
 use Rattle.geometry.specs.declared.funnel.FunnelPlan.{FunnelPlan}
 use Rattle.funnel.specs.declared.table.FunnelTable.{FunnelTable}
-use Rattle.gridder.specs.Lent.{wordsFrom, lent}
+use Rattle.lent.specs.Lent.{wordsFrom, lent}
 
 -- "a second lent block of 2,048 bytes"
 abbrev pub stateLength : ℕ

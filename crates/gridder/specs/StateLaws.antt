@@ -11,7 +11,7 @@ use borrow.Author.Tests.{eq-eqb, ne-eqb, eqb-true, ltb-true}
 use Rattle.words.specs.Bytes.{numAt}
 use Rattle.words.specs.Pick.{pick}
 use Rattle.funnel.specs.declared.table.FunnelTable.{FunnelTable}
-use Rattle.gridder.specs.Lent.{lent}
+use Rattle.lent.specs.Lent.{lent}
 use Rattle.gridder.specs.State.{stateLength, funnelKind, countsAt, holdsFunnel, planWords, funnelBlock}
 
 -- test by test

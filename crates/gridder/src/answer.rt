@@ -3,9 +3,10 @@ ghost use mathlib.Core.List.{[]};
 ghost use mathlib.Core.Path.{_≡_};
 ghost use lib.ListN.{length};
 ghost use Rattle.refusal.specs.Table.{numberOf, nameOf};
-ghost use Rattle.funnel.specs.Calls.{searchReport, insertionReport};
-ghost use Rattle.gridder.specs.Answer.{stored, says, saying, placeFields, searchFields, insertionFields, reply};
+ghost use Rattle.funnel.specs.Calls.{searchReport, insertionReport, placementReport};
+ghost use Rattle.gridder.specs.Answer.{stored, says, saying, placeFields, searchFields, insertionFields, placementFields, reply};
 use funnel::table::Insertion;
+use funnel::table::Placement;
 use funnel::table::Search;
 use refusal::Gate;
 use refusal::Name;
@@ -33,6 +34,8 @@ const SLOT: usize = 40;
 const WORDS: usize = 48;
 
 const FOUND: usize = 56;
+
+const PLACED: usize = 64;
 
 // A refusal of the gate, which has nothing to say but its number.
 pub fn say_gate(answer: &mut [u8], gate: Gate) -> u64
@@ -101,6 +104,35 @@ pub fn say_insertion(answer: &mut [u8], done: Insertion) -> u64
             number(Name::Exhausted)
         }
         Insertion::Full { probes } => {
+            write64(answer, PROBES, probes);
+            number(Name::Full)
+        }
+    }
+}
+
+// How far a placement of so many identities came.
+pub fn say_placement(answer: &mut [u8], done: Placement, total: u64) -> u64
+    requires { ⌜ length (now answer) ≡ 128 ⌝ }
+    ensures { λ r. ⌜ reply r (now (answer .exit)) ≡ reply (placementReport done .number) (says (placementFields done total)) ⌝ }
+{
+    clear_bytes(answer);
+    match done {
+        Placement::All => {
+            write64(answer, PLACED, total);
+            0
+        }
+        Placement::Range { index, refusal } => {
+            write64(answer, PLACED, index);
+            write64(answer, WORDS, refusal.words);
+            number(Name::Range)
+        }
+        Placement::Exhausted { index, probes } => {
+            write64(answer, PLACED, index);
+            write64(answer, PROBES, probes);
+            number(Name::Exhausted)
+        }
+        Placement::Full { index, probes } => {
+            write64(answer, PLACED, index);
             write64(answer, PROBES, probes);
             number(Name::Full)
         }

@@ -7,21 +7,18 @@ ghost use lib.ListN.{length};
 ghost use Rattle.gridder.specs.Calls.{callGate, searchCall, left, countedIn, insertCall, openBlocksGate, openSaying, OpensBy, OpensLent};
 ghost use Rattle.refusal.specs.Table.{numberOf, nameOf};
 ghost use Rattle.geometry.specs.declared.config.Gated.the-variants.{Passed};
-ghost use Rattle.gridder.specs.Lent.{wordsOf, wordCount};
+ghost use Rattle.lent.specs.Lent.{wordsOf, wordCount};
 ghost use Rattle.gridder.specs.State.{holdsFunnel};
 use crate::answer::ANSWER_LENGTH;
 use crate::answer::say_gate;
 use crate::answer::say_insertion;
 use crate::answer::say_search;
-use crate::lent::word_count;
-use crate::put_bytes::put;
 use crate::state::STATE_LENGTH;
 use crate::state::holds_funnel;
 use crate::state::read_counts;
 use crate::state::table_in;
 use crate::state::write_count;
 use crate::state::write_table;
-use crate::walk_bytes::find;
 use funnel::calls::open_gate;
 use funnel::calls::table_gate;
 use funnel::table::FunnelTable;
@@ -29,6 +26,9 @@ use funnel::table::Insertion;
 use geometry::config::Gated;
 use geometry::funnel::FunnelPlanned;
 use geometry::funnel::funnel_plan;
+use lent::put::put;
+use lent::walk::find;
+use lent::word::word_count;
 use refusal::Gate;
 use refusal::Name;
 use refusal::gate_name;
@@ -67,7 +67,7 @@ fn search_in(state: &[u8], words: &[u8], flags: &[u8], identity: u64, answer: &m
 }
 
 // The tests 1 to 7 of a table, and the length of the answer block.
-fn call_gate(
+pub fn call_gate(
     table: FunnelTable,
     counts: &[u64; 118],
     words: u64,

@@ -1,8 +1,8 @@
 // The calls for C: funnel tables on numbers and byte slices. Carries request 1 of the changes after the base.
 //
 // Each call tests what it is lent, requires nothing, answers the number of its refusal (0 where there is none), and writes what more
-// it has to say to the answer block. It walks the base's path over another storage: only the scan and the walk are written
-// again, for words lent as little-endian bytes, eight to a word; no table is copied.
+// it has to say to the answer block. Words are lent as little-endian bytes, eight to a word, and crate `lent` walks the base's
+// path over them; no table is copied.
 //
 // Every number in a block is a little-endian word of eight bytes. The state block, 2,048 bytes, of a funnel table:
 //
@@ -23,27 +23,20 @@
 //     40  global slot
 //     48  words, of RANGE
 //     56  1 where a search met the identity, 0 where it met a vacancy
+//     64  placed: the identities that have their slot
 //
-// and kept for the calls to come: 64 placed, 72 position, 80 mapped, 88 gap, 96 byte place, 104 label offset, 112 label length,
+// and kept for the calls to come: 72 position, 80 mapped, 88 gap, 96 byte place, 104 label offset, 112 label length,
 // 120 image length.
 //
-//     lent.rt        words in bytes
-//     scan_bytes.rt  walks over slots, the only readers of the buffers
-//     walk_bytes.rt  the stages of a path, and the search along all of it, in a valid table
-//     put_bytes.rt   insertion into a valid table
-//     place_bytes.rt many insertions into a valid table
-//     state.rt       the state block
-//     answer.rt      the answer block
-//     funnels.rt     the exported calls: open, search, insert
+//     state.rt    the state block
+//     answer.rt   the answer block
+//     funnels.rt  the exported calls: open, search, insert
+//     placing.rt  the exported call that places many identities
 //
-// specs/Lent.antt says what words lent as bytes are, State.antt and Answer.antt what the blocks hold, Calls.antt what each call
-// answers and leaves.
+// specs/State.antt and Answer.antt say what the blocks hold, Calls.antt and Place.antt what each
+// call answers and leaves.
 
 pub mod answer;
 pub mod funnels;
-pub mod lent;
-pub mod place_bytes;
-pub mod put_bytes;
-pub mod scan_bytes;
+pub mod placing;
 pub mod state;
-pub mod walk_bytes;

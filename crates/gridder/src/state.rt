@@ -4,7 +4,7 @@ ghost use mathlib.Core.Path.{_≡_};
 ghost use Prim.Native.Nat.{_+_, _*_, _≤_};
 ghost use lib.ListN.{length};
 ghost use lib.Seq.{sets};
-ghost use Rattle.gridder.specs.Lent.{lent, wordsFrom};
+ghost use Rattle.lent.specs.Lent.{lent, wordsFrom};
 ghost use Rattle.gridder.specs.State.{holdsFunnel, planIn, tableIn, countsIn, funnelBlock, withCountIn};
 use funnel::table::FunnelTable;
 use geometry::funnel::FunnelPlan;

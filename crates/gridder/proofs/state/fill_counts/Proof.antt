@@ -3,8 +3,8 @@ use mathlib.Core.Path.{_≡_, refl}
 use Prim.Native.Nat.{_-_, _≤_}
 use native.Mathlib.Omega.{arith}
 use lib.ListN.{length, take, length-set}
-use Rattle.gridder.specs.Lent.{wordsFrom}
-use Rattle.gridder.specs.LentLaws.{filled-more, filled-all}
+use Rattle.lent.specs.Lent.{wordsFrom}
+use Rattle.lent.specs.LentLaws.{filled-more, filled-all}
 use Rattle.gridder.proofs.state.fill_counts.Statement.{statement}
 use Rattle.gridder.proofs.state.fill_counts.Tie as tie
 

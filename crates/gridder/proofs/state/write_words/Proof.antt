@@ -5,8 +5,8 @@ use Prim.Native.Nat.{_-_, _≤_}
 use native.Mathlib.Omega.{arith}
 use lib.ListN.{length, take}
 use lib.Seq.{sets}
-use Rattle.gridder.specs.Lent.{lent}
-use Rattle.gridder.specs.LentLaws.{storing-more, storing-all}
+use Rattle.lent.specs.Lent.{lent}
+use Rattle.lent.specs.LentLaws.{storing-more, storing-all}
 use Rattle.gridder.proofs.state.write_words.Statement.{statement}
 use Rattle.gridder.proofs.state.write_words.Tie as tie
 

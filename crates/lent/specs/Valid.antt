@@ -1,0 +1,20 @@
+-- What it is that a table whose words are lent as bytes is valid, and that there is room for slots. Assumes nothing.
+use mathlib.Core.Path.{_≡_}
+use mathlib.Core.List.{List}
+use Prim.Native.Nat.{ℕ, _*_, _%_, _≤_}
+use lib.ListN.{length}
+use Rattle.funnel.specs.Valid.{Valid}
+use Rattle.funnel.specs.declared.table.FunnelTable.{FunnelTable}
+use Rattle.lent.specs.Lent.{wordsOf}
+
+-- a state and buffers that pass the tests 1 to 7
+pub record ValidLent (table : FunnelTable) (counts words flags : List ℕ) : Type 0 where
+  pub valid : Valid table counts (wordsOf words) flags
+  -- the words are whole
+  pub whole : length words ≡ table .n * 8
+
+-- identities and slots that are whole words, with a slot for each identity
+pub record LentRoom (identities slots : List ℕ) : Type 0 where
+  pub whole : length identities % 8 ≡ 0
+  pub whole-slots : length slots % 8 ≡ 0
+  pub room : length identities ≤ length slots
