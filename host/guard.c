@@ -166,6 +166,7 @@ struct table {
 
 static struct table pool[POOL];
 static struct table *table; /* the one of this call */
+static bool damaged;        /* whether what is lent differs from it */
 
 static uint64_t member(void)
 {
@@ -289,7 +290,8 @@ static void lend_table(void)
     lend(WORDS, table->words, 8 * table->n);
     lend(FLAGS, table->flags, table->n);
     lend(ANSWER, answer, sizeof answer);
-    if (!one_in(3))
+    damaged = one_in(3);
+    if (!damaged)
         return;
     resize(STATE, about(arenas[STATE].length));
     resize(WORDS, about(arenas[WORDS].length));
@@ -395,12 +397,10 @@ static bool same_but_word(int which, size_t k)
            memcmp(arenas[which].before + at + 8, arenas[which].at + at + 8, arenas[which].length - at - 8) == 0;
 }
 
-/* A call that went well on a table without made-up bytes leaves the next table of the pool. */
+/* What a call left of an undamaged table is the pool's from now on. */
 static void keep_table(void)
 {
-    if (arenas[STATE].length != sizeof table->state || arenas[WORDS].length != 8 * table->n || arenas[FLAGS].length != table->n)
-        return;
-    if (word_now(STATE, 1) != table->n || memcmp(arenas[STATE].before, table->state, sizeof table->state) != 0)
+    if (damaged)
         return;
     memcpy(table->state, arenas[STATE].at, sizeof table->state);
     memcpy(table->words, arenas[WORDS].at, 8 * table->n);
@@ -512,7 +512,8 @@ static void try_place_all(void)
         keeps_table();
         return;
     }
-    must(arenas[IDENTITIES].length % 8 == 0 && arenas[SLOTS].length / 8 >= arenas[IDENTITIES].length / 8, "lengths that are STATE");
+    must(arenas[IDENTITIES].length % 8 == 0 && arenas[SLOTS].length % 8 == 0 && arenas[SLOTS].length >= arenas[IDENTITIES].length,
+         "lengths that are STATE");
     if (result == 0)
         must(landovireph_answer_placed(arenas[ANSWER].at) == arenas[IDENTITIES].length / 8, "placed is not all");
     keeps_placed(landovireph_answer_placed(arenas[ANSWER].at));
@@ -663,7 +664,7 @@ static void (*const tries[CALLS])(void) = { try_open, try_search, try_insert, tr
 static void one_call(void)
 {
     table = &pool[below(POOL)];
-    if (one_in(400) && reopen(table) != 0)
+    if (one_in(100) && reopen(table) != 0)
         fail("a table of the pool cannot be opened again");
     lend_table();
     current = (enum call)below(CALLS);

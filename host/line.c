@@ -53,20 +53,36 @@ static unsigned digit(char c)
     return 16;
 }
 
+/* The base of a number, and where its digits begin. */
+static unsigned base_of(struct field field, size_t *at)
+{
+    bool hex = field.length >= 2 && field.text[0] == '0' && field.text[1] == 'x';
+    *at = hex ? 2 : 0;
+    return hex ? 16 : 10;
+}
+
+bool field_is_number(struct field field)
+{
+    size_t at;
+    unsigned base = base_of(field, &at);
+    if (at == field.length)
+        return false;
+    for (; at < field.length; at++)
+        if (digit(field.text[at]) >= base)
+            return false;
+    return true;
+}
+
 bool field_word(struct field field, uint64_t *value)
 {
-    unsigned base = 10;
+    size_t at;
+    unsigned base = base_of(field, &at);
     uint64_t sum = 0;
-    size_t at = 0;
-    if (field.length >= 2 && field.text[0] == '0' && field.text[1] == 'x') {
-        base = 16;
-        at = 2;
-    }
-    if (at == field.length)
+    if (!field_is_number(field))
         return false;
     for (; at < field.length; at++) {
         unsigned d = digit(field.text[at]);
-        if (d >= base || sum > (UINT64_MAX - d) / base)
+        if (sum > (UINT64_MAX - d) / base)
             return false;
         sum = sum * base + d;
     }

@@ -26,6 +26,8 @@ struct entry {
 /* Each answers whether the text is of that form. Fields are never empty. */
 bool line_fields(struct fields *fields, const char *text, size_t length);
 bool field_is(struct field field, const char *word);
+/* A number of any size. */
+bool field_is_number(struct field field);
 bool field_word(struct field field, uint64_t *value);
 bool field_half_word(struct field field, uint32_t *value);
 /* LEFT=RIGHT. */

@@ -8,7 +8,8 @@
  * above 1,048,576. Without it L means that this machine's memory does not hold the table.
  *
  * Commands on parts that no exported call gives (layouts of elastic tables, probes, phi, budget) are answered `no call`.
- * What the calls must leave as it was is tested on the way: CHANGED stands behind an answer where they did not.
+ * What the calls must leave as it was is tested on the way: CHANGED stands behind an answer where they did not. A bulk run is made a
+ * second time by placing many identities at a time: DIFFERS stands behind its answer where that leaves another table.
  */
 #include "line.h"
 #include "table.h"
@@ -41,6 +42,12 @@ static bool read_numbers(struct given given, struct numbers *numbers)
 {
     return given.count >= 4 && field_word(given.fields[0], &numbers->n) && field_half_word(given.fields[1], &numbers->e) &&
            field_word(given.fields[2], &numbers->seed) && field_word(given.fields[3], &numbers->cap);
+}
+
+static bool same_table(const struct table *a, const struct table *b)
+{
+    return memcmp(a->state, b->state, sizeof a->state) == 0 && memcmp(a->words, b->words, 8 * a->n) == 0 &&
+           memcmp(a->flags, b->flags, a->n) == 0;
 }
 
 /* Opens the table, or prints why there is none. */
@@ -196,6 +203,37 @@ static uint64_t bulk_identity(uint64_t start, uint64_t k)
     return mix64(start + k * 0x9E3779B97F4A7C15u);
 }
 
+/* Identities that one placement of many is given. */
+#define BATCH 4096
+
+/* Places the identities from k on up to the last or to a whole batch, by one call, into a second table; how many came out of it. */
+static uint64_t place_batch(struct table *table, uint64_t start, uint64_t k, uint64_t count)
+{
+    static uint8_t identities[8 * BATCH], slots[8 * BATCH];
+    uint64_t many = count - k + 1 < BATCH ? count - k + 1 : BATCH, i, refused;
+    for (i = 0; i < many; i++)
+        landovireph_put(identities, 8 * i, bulk_identity(start, k + i));
+    refused = landovireph_funnel_place_all(table->state, sizeof table->state, table->words, 8 * table->n, table->flags, table->n,
+                                           identities, 8 * many, slots, 8 * many, table->answer, sizeof table->answer);
+    /* The identity that was refused is passed over, as the single insertions pass it. */
+    return refused == 0 ? many : landovireph_answer_placed(table->answer) + 1;
+}
+
+/* Whether the same identities, placed many at a time, leave the same table. */
+static bool placing_agrees(struct numbers numbers, uint64_t start, uint64_t count, const struct table *table)
+{
+    struct table second;
+    uint64_t k = 1;
+    bool agrees;
+    if (table_open(&second, numbers.n, numbers.e, numbers.seed, numbers.cap, bounds.slots) != 0)
+        return false;
+    while (k <= count)
+        k += place_batch(&second, start, k, count);
+    agrees = same_table(&second, table);
+    table_close(&second);
+    return agrees;
+}
+
 static bool answer_bulk(struct given given)
 {
     struct numbers numbers;
@@ -213,6 +251,8 @@ static bool answer_bulk(struct given given)
     printf("%" PRIu64 " ", landovireph_state_count(table.state));
     print_tally(tally);
     printf(" %" PRIu64 " %016" PRIx64, probes, table_digest(table.words, table.flags, table.n));
+    if (!placing_agrees(numbers, start, count, &table))
+        printf(" DIFFERS");
     table_close(&table);
     return true;
 }
@@ -246,12 +286,6 @@ static void copy_table(struct table *copy, const struct table *table)
     copy->flags = must_have(table->n);
     memcpy(copy->words, table->words, 8 * table->n);
     memcpy(copy->flags, table->flags, table->n);
-}
-
-static bool same_table(const struct table *a, const struct table *b)
-{
-    return memcmp(a->state, b->state, sizeof a->state) == 0 && memcmp(a->words, b->words, 8 * a->n) == 0 &&
-           memcmp(a->flags, b->flags, a->n) == 0;
 }
 
 static void say_unless(bool unchanged)
@@ -488,11 +522,14 @@ static const struct uncalled uncalled[] = {
     { "ER", 6 }, { "FR", 7 },  { "PHI", 2 }, { "PHB", 2 }, { "PHINV", 1 }, { "BUD", 4 },
 };
 
-static bool answer_uncalled(struct field word, size_t count)
+static bool answer_uncalled(struct field word, struct given given)
 {
     size_t i;
+    for (i = 0; i < given.count; i++)
+        if (!field_is_number(given.fields[i]))
+            return false;
     for (i = 0; i < sizeof uncalled / sizeof uncalled[0]; i++)
-        if (field_is(word, uncalled[i].word) && count == uncalled[i].count) {
+        if (field_is(word, uncalled[i].word) && given.count == uncalled[i].count) {
             printf("no call");
             return true;
         }
@@ -506,7 +543,7 @@ static bool answer_command(const struct fields *fields)
     for (i = 0; i < sizeof commands / sizeof commands[0]; i++)
         if (field_is(fields->list[0], commands[i].word))
             return commands[i].answer(given);
-    return answer_uncalled(fields->list[0], given.count);
+    return answer_uncalled(fields->list[0], given);
 }
 
 static void answer_line(struct fields *fields, const char *line, size_t length)

@@ -263,8 +263,8 @@ uint64_t landovireph_funnel_insert(uint8_t *state, size_t state_bytes,
  * entry k of slots becomes the slot of entry k of identities, whether it was there or was entered now. The state block is tested
  * once and not for each identity. Entries of slots behind the last identity stay as they were. Answers placed: how many
  * identities have their slot.
- * Refusals: 1 to 7, STATE also where identities is no whole number of words, or slots has fewer entries than identities; then the first
- * refusal that an identity meets: RANGE with words, EXHAUSTED and FULL with probes, each with placed, which is the index of that
+ * Refusals: 1 to 7, STATE also where identities or slots is no whole number of words, or slots has fewer entries than identities; then
+ * the first refusal that an identity meets: RANGE with words, EXHAUSTED and FULL with probes, each with placed, which is the index of that
  * identity. Those before it are placed, their slots written and counted.
  */
 uint64_t landovireph_funnel_place_all(uint8_t *state, size_t state_bytes,
