@@ -85,7 +85,7 @@ fn settle(
 }
 
 // An insertion's answer as a placement tells it.
-fn settled(answer: Insertion, index: u64) -> Settled
+pub fn settled(answer: Insertion, index: u64) -> Settled
     ensures { λ r. ⌜ r ≡ settledOf answer index ⌝ }
 {
     match answer {
@@ -102,7 +102,7 @@ fn settled(answer: Insertion, index: u64) -> Settled
 }
 
 // The table with another count.
-fn with_count(table: FunnelTable, count: u64) -> FunnelTable
+pub fn with_count(table: FunnelTable, count: u64) -> FunnelTable
     ensures { λ r. ⌜ r ≡ withCount table count ⌝ }
 {
     let mut next = table;

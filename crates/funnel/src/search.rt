@@ -165,7 +165,7 @@ pub fn pass_levels(
 }
 
 // The bucket of a level by its first word, where there is such a level.
-fn first_bucket(key: FunnelKey, counts: &[u64; 118], alpha: u64, level: u64) -> u64
+pub fn first_bucket(key: FunnelKey, counts: &[u64; 118], alpha: u64, level: u64) -> u64
     requires { ⌜ (alpha ≤ 118) × ((k : ℕ) → k < alpha → 0 < getD (now counts) k 0) ⌝ }
     ensures { λ r. ⌜ FirstAhead key (now (counts .entry)) alpha level r ⌝ }
 {

@@ -68,7 +68,7 @@ pub fn load_image(
 }
 
 // The tests 1 to 7 of the writer. A long label is LIMITS, so it is told before STATE and after LAYOUT.
-fn write_gate(
+pub fn write_gate(
     table: FunnelTable,
     counts: &[u64; 118],
     words: u64,

@@ -63,7 +63,7 @@ pub fn load(table: FunnelTable, words: &mut [u64], flags: &mut [u8], image: &[u8
 }
 
 // Whether an image is of the table (n, e, seed).
-fn own(n: u64, e: u64, seed: u64, head: Head) -> bool
+pub fn own(n: u64, e: u64, seed: u64, head: Head) -> bool
     ensures { λ r. ⌜ r ≡ ofTable n e seed (head .n) (head .e) (head .seed) ⌝ }
 {
     if head.n == n {

@@ -53,7 +53,7 @@ pub fn write(
 }
 
 // The length of an image.
-fn image_size(label_len: usize, count: usize) -> usize
+pub fn image_size(label_len: usize, count: usize) -> usize
     requires { ⌜ («label_len» ≤ labelMost) × (count ≤ 2 ^ 32) ⌝ }
     ensures { λ r. ⌜ r ≡ sizeOf «label_len» count ⌝ }
 {
@@ -90,7 +90,7 @@ fn write_all(
 }
 
 // A field of a number of eight bytes.
-fn write_field8(out: &mut [u8], at: usize, tag: u8, x: u64)
+pub fn write_field8(out: &mut [u8], at: usize, tag: u8, x: u64)
     requires { ⌜ at + 11 ≤ length (now out) ⌝ }
     ensures { λ r. ⌜ now (out .exit) ≡ sets (now (out .entry)) at (fieldOf tag (bytesOf 8 x)) ⌝ }
 {
@@ -99,7 +99,7 @@ fn write_field8(out: &mut [u8], at: usize, tag: u8, x: u64)
 }
 
 // A field of a number of four bytes.
-fn write_field4(out: &mut [u8], at: usize, tag: u8, x: u64)
+pub fn write_field4(out: &mut [u8], at: usize, tag: u8, x: u64)
     requires { ⌜ at + 7 ≤ length (now out) ⌝ }
     ensures { λ r. ⌜ now (out .exit) ≡ sets (now (out .entry)) at (fieldOf tag (bytesOf 4 x)) ⌝ }
 {
@@ -108,7 +108,7 @@ fn write_field4(out: &mut [u8], at: usize, tag: u8, x: u64)
 }
 
 // A field's tag and length.
-fn write_head(out: &mut [u8], at: usize, tag: u8, len: u64)
+pub fn write_head(out: &mut [u8], at: usize, tag: u8, len: u64)
     requires { ⌜ at + 3 ≤ length (now out) ⌝ }
     ensures { λ r. ⌜ now (out .exit) ≡ sets (now (out .entry)) at (tag ∷ bytesOf 2 len) ⌝ }
 {
@@ -117,7 +117,7 @@ fn write_head(out: &mut [u8], at: usize, tag: u8, len: u64)
 }
 
 // The label's field, none if it is empty; the offset after it.
-fn write_label(label: &[u8], out: &mut [u8], at: usize) -> usize
+pub fn write_label(label: &[u8], out: &mut [u8], at: usize) -> usize
     requires { ⌜ (at + 3 + length (now label) ≤ length (now out)) × (length (now label) ≤ labelMost) ⌝ }
     ensures { λ r. ⌜ Put (labelField (now (label .entry))) (now (out .entry)) at (now (out .exit)) r ⌝ }
 {
@@ -162,7 +162,7 @@ fn write_fields(words: &[u64], flags: &[u8], count: usize, out: &mut [u8], at: u
 }
 
 // As many of the entries left as a field takes.
-fn chunk_of(left: usize) -> usize
+pub fn chunk_of(left: usize) -> usize
     ensures { λ r. ⌜ r ≡ chunk left ⌝ }
 {
     if left < FIELD_ENTRIES {
@@ -201,7 +201,7 @@ fn write_entries(
 }
 
 // One entry at `at`.
-fn write_entry(out: &mut [u8], at: usize, slot: u64, identity: u64)
+pub fn write_entry(out: &mut [u8], at: usize, slot: u64, identity: u64)
     requires { ⌜ at + entrySize ≤ length (now out) ⌝ }
     ensures { λ r. ⌜ now (out .exit) ≡ sets (now (out .entry)) at (entryBytes slot identity) ⌝ }
 {

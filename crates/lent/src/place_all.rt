@@ -1,19 +1,20 @@
 // Many insertions into a valid table whose words are lent as bytes, as in funnel's place_all.rt. Identities and slots are lent as
 // bytes too.
 ghost use mathlib.Core.Path.{_≡_};
-ghost use Prim.Native.Nat.{_*_, _≤_};
-ghost use lib.ListN.{length};
-ghost use Rattle.funnel.specs.Insert.{placed, withCount, placeAllOf};
+ghost use Prim.Native.Nat.{_≤_};
+ghost use Rattle.funnel.specs.Insert.{withCount, Settles, placed, placeAllOf};
 ghost use Rattle.lent.specs.Lent.{wordsOf};
-ghost use Rattle.lent.specs.Valid.{LentRoom};
-ghost use Rattle.lent.specs.Valid.{ValidLent};
+ghost use Rattle.lent.specs.Valid.{ValidLent, LentRoom};
 use crate::put::put;
+use crate::walk::pass_levels;
 use crate::word::word_at;
-use funnel::insert::slot_of;
+use funnel::place_all::settled;
+use funnel::place_all::with_count;
 use funnel::table::FunnelTable;
-use funnel::table::Insertion;
 use funnel::table::PlacedAll;
 use funnel::table::Placement;
+use funnel::table::Settled;
+use funnel::table::Stop;
 use words::bytes::write64;
 
 // For each identity the slot where it is or was put, up to the first refusal. Slots past that are left as they were.
@@ -33,33 +34,19 @@ pub fn place_all(
     let mut i = 0;
     while i < total {
         let identity = word_at(identities, i);
-        match put(table, count, counts, words, flags, identity) {
-            Insertion::Inserted { probes: _, place } => {
-                let slot = slot_of(place);
+        match settle(table, count, counts, words, flags, identity, i) {
+            Settled::Put { slot } => {
                 write64(slots, i as usize * 8, slot);
                 count += 1;
                 i += 1;
             }
-            Insertion::Duplicate { probes: _, place } => {
-                let slot = slot_of(place);
+            Settled::There { slot } => {
                 write64(slots, i as usize * 8, slot);
                 i += 1;
             }
-            Insertion::Range(refusal) => {
+            Settled::Refused(answer) => {
                 return PlacedAll {
-                    answer: Placement::Range { index: i, refusal },
-                    table: with_count(table, count),
-                };
-            }
-            Insertion::Exhausted { probes } => {
-                return PlacedAll {
-                    answer: Placement::Exhausted { index: i, probes },
-                    table: with_count(table, count),
-                };
-            }
-            Insertion::Full { probes } => {
-                return PlacedAll {
-                    answer: Placement::Full { index: i, probes },
+                    answer,
                     table: with_count(table, count),
                 };
             }
@@ -71,11 +58,32 @@ pub fn place_all(
     }
 }
 
-// The table with another count.
-fn with_count(table: FunnelTable, count: u64) -> FunnelTable
-    ensures { λ r. ⌜ r ≡ withCount table count ⌝ }
+// The insertion of the identity at an index, as far as a placement tells it: by its slots in the levels where these settle it, else
+// in full.
+fn settle(
+    table: FunnelTable,
+    count: u64,
+    counts: &[u64; 118],
+    words: &mut [u8],
+    flags: &mut [u8],
+    identity: u64,
+    index: u64,
+) -> Settled
+    requires { ⌜ ValidLent table (now counts) (now words) (now flags) × (count ≤ table .n) ⌝ }
+    ensures { λ r. ⌜ Settles (withCount table count) (now (counts .entry)) (wordsOf (now (words .entry))) (now (flags .entry)) identity index r (wordsOf (now (words .exit))) (now (flags .exit)) ⌝ }
 {
-    let mut next = table;
-    next.count = count;
-    next
+    let maximum = table.plan.maximum;
+    match pass_levels(table, counts, words, flags, identity) {
+        Stop::Hit { slot } => Settled::There { slot },
+        Stop::Vacant { slot } => {
+            if maximum <= count {
+                return settled(put(table, count, counts, words, flags, identity), index);
+            }
+            let at = slot as usize;
+            write64(words, at * 8, identity);
+            flags[at] = 1;
+            Settled::Put { slot }
+        }
+        Stop::Nowhere => settled(put(table, count, counts, words, flags, identity), index),
+    }
 }

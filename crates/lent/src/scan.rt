@@ -2,13 +2,15 @@
 // insertion, touch the buffers.
 ghost use mathlib.Core.List.{[], _∷_};
 ghost use mathlib.Core.Path.{_≡_};
-ghost use Prim.Native.Nat.{_+_, _*_, _≤_, _<_, _^_};
+ghost use Prim.Native.Nat.{_+_, _*_, _%_, _≤_, _<_, _^_};
 ghost use lib.ListN.{length};
 ghost use Rattle.funnel.specs.Path.{slotOf, run, bucketFrom, pairsFrom};
 ghost use Rattle.funnel.specs.Search.{searchOf};
+ghost use Rattle.funnel.specs.Stop.{BucketStops};
 ghost use Rattle.lent.specs.Lent.{wordsOf};
 use crate::word::word_at;
 use funnel::table::Search;
+use funnel::table::Stop;
 use words::place::GlobalSlot;
 use words::place::Place;
 
@@ -55,6 +57,32 @@ pub fn scan(
         i += 1;
     }
     Search::Full { probes: probes + w }
+}
+
+// Where a bucket of w slots stops a search, for an even w: two slots a turn, no place and no count of probes.
+pub fn pass(words: &[u8], flags: &[u8], identity: u64, from: u64, w: u64) -> Stop
+    requires { ⌜ (from + w ≤ length (now flags)) × (length (now words) ≡ length (now flags) * 8) × (w % 2 ≡ 0) ⌝ }
+    ensures { λ r. ⌜ BucketStops (wordsOf (now (words .entry))) (now (flags .entry)) identity from w r ⌝ }
+{
+    let mut i = 0;
+    while i < w {
+        let slot = from + i;
+        if flags[slot as usize] == 0 {
+            return Stop::Vacant { slot };
+        }
+        if word_at(words, slot) == identity {
+            return Stop::Hit { slot };
+        }
+        let next = slot + 1;
+        if flags[next as usize] == 0 {
+            return Stop::Vacant { slot: next };
+        }
+        if word_at(words, next) == identity {
+            return Stop::Hit { slot: next };
+        }
+        i += 2;
+    }
+    Stop::Nowhere
 }
 
 // The reading of one place, whose slot is `at`, with some probes made before.

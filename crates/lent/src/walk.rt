@@ -4,16 +4,20 @@ ghost use Prim.Native.Nat.{_*_};
 ghost use lib.ListN.{length};
 ghost use Rattle.funnel.specs.Path.{levelsFrom, primaryFrom, fallbackOf};
 ghost use Rattle.funnel.specs.Search.{searchOf, findOf};
+ghost use Rattle.funnel.specs.Stop.{StopsAt};
 ghost use Rattle.funnel.specs.Valid.{Keyed, SpecialRoom};
 ghost use Rattle.lent.specs.Lent.{wordsOf};
 ghost use Rattle.lent.specs.Valid.{ValidLent};
+use crate::scan::pass;
 use crate::scan::read;
 use crate::scan::scan;
 use crate::scan::scan_pairs;
 use funnel::search::draw_level;
+use funnel::search::first_bucket;
 use funnel::search::sample;
 use funnel::table::FunnelTable;
 use funnel::table::Search;
+use funnel::table::Stop;
 use probe::counter::Domain;
 use probe::range::Drawn;
 use probe::word::FunnelKey;
@@ -86,6 +90,42 @@ fn search_levels(
         level += 1;
     }
     Search::Full { probes }
+}
+
+// The slot that the levels settle a search with, as in funnel's `pass_levels`. What first words do not settle is left to `find`.
+pub fn pass_levels(
+    table: FunnelTable,
+    counts: &[u64; 118],
+    words: &[u8],
+    flags: &[u8],
+    identity: u64,
+) -> Stop
+    requires { ⌜ ValidLent table (now counts) (now words) (now flags) ⌝ }
+    ensures { λ r. ⌜ StopsAt r (findOf table (now (counts .entry)) (wordsOf (now (words .entry))) (now (flags .entry)) identity) (Unit {0}) ⌝ }
+{
+    let key = funnel_key(table.seed, identity);
+    let alpha = table.plan.alpha;
+    let beta = table.plan.beta;
+    let mut level = 0;
+    let mut start = 0;
+    let mut bucket = first_bucket(key, counts, alpha, 0);
+    while level < alpha {
+        let count = counts[level as usize];
+        if count <= bucket {
+            return Stop::Nowhere;
+        }
+        // The next level's bucket is drawn before this one is read.
+        let ahead = first_bucket(key, counts, table.plan.alpha, level + 1);
+        let from = start + bucket * beta;
+        let stop = pass(words, flags, identity, from, beta);
+        let Stop::Nowhere = stop else {
+            return stop;
+        };
+        bucket = ahead;
+        start += count * beta;
+        level += 1;
+    }
+    Stop::Nowhere
 }
 
 // "then g primary probes", among the primary slots from `start` on, with some probes made before

@@ -5,7 +5,8 @@ use lib.ListN.{length}
 use native.Mathlib.Omega.{arith}
 use borrow.Author.Needs.{needs}
 use Rattle.geometry.specs.FunnelLaws.{plan-facts}
-use Rattle.lent.specs.PlaceLaws.{PlacingLent, placing-none, placing-lengths, placing-inserted, placing-duplicate, placing-range, placing-exhausted, placing-full, placing-all, placed-table}
+use Rattle.funnel.specs.PlaceLaws.{placed-table}
+use Rattle.lent.specs.PlaceLaws.{PlacingLent, placing-none, placing-valid, placing-lengths, placing-put, placing-there, placing-refused, placing-all}
 use Rattle.lent.proofs.place_all.place_all.Statement.{statement}
 use Rattle.lent.proofs.place_all.place_all.Tie as tie
 
@@ -21,122 +22,80 @@ loop-holds c = placing-none _ _ _ _ _ _ (c .before .before .before .before .pre 
 word-at-requires : tie.Need-word-at-requires Inv-loop μ-loop
 word-at-requires c κs = let l = c .loop-test .taken in omega arith
 
-put-requires : tie.Need-put-requires Inv-loop μ-loop
-put-requires c κs = (c .before .before .before .before .loop .inv .valid, c .before .before .before .before .loop .inv .most)
+settle-requires : tie.Need-settle-requires Inv-loop μ-loop
+settle-requires c κs = (placing-valid _ _ _ _ _ _ (c .before .before .before .before .loop .inv), c .before .before .before .before .loop .inv .placing .most)
 
-enum-known-place : tie.Need-enum-known-place Inv-loop μ-loop
-enum-known-place c = search needs
-
-slot-of-requires : tie.Need-slot-of-requires Inv-loop μ-loop
-slot-of-requires c κs = search needs
+enum-known-slot : tie.Need-enum-known-slot Inv-loop μ-loop
+enum-known-slot c = search needs
 
 mul-write64 : tie.Need-mul-write64 Inv-loop μ-loop
-mul-write64 c = let l = c .before .before .before .before .before .before .before .before .before .before .before .before .before .loop-test .taken in omega (arith, c .before .before .before .before .before .before .before .before .before .before .before .before .before .before .before .before .before .before .before .good .1 .1 .1 .1 .0 .1)
+mul-write64 c = let l = c .before .before .before .before .before .before .before .before .before .before .before .before .loop-test .taken in omega (arith, c .before .before .before .before .before .before .before .before .before .before .before .before .before .before .before .before .before .before .good .1 .1 .1 .1 .0 .1)
 
 write64-requires : tie.Need-write64-requires Inv-loop μ-loop
-write64-requires c κs = let p = c .before .before .before .before .before .before .before .before .before .before .before .before .before .before .loop .inv in let q = p .room .room in let l = c .before .before .before .before .before .before .before .before .before .before .before .before .before .loop-test .taken in omega arith
+write64-requires c κs = let q = c .before .before .before .before .before .before .before .before .before .before .before .before .before .loop .inv .room .room in let l = c .before .before .before .before .before .before .before .before .before .before .before .before .loop-test .taken in omega arith
 
 add-count : tie.Need-add-count Inv-loop μ-loop
-add-count c = let p = placing-inserted _ _ _ _ _ _ (c .before .before .before .before .before .before .before .before .before .before .before .before .before .before .before .before .before .loop .inv) (c .before .before .before .before .before .before .before .before .before .before .before .before .before .before .before .before .loop-test .taken) _ (c .before .before .before .before .before .before .before .before .before .before .before .before .before .before .before .word-at .ensures) _ _ _ (c .before .before .before .before .before .before .before .before .before .before .before .before .put .kept .1 .1 .1 .0) (c .before .before .before .before .before .before .before .before .before .before .before .before .put .ensures) (c .before .before .before .before .slot-of .result) (omega arith) _ (c .before .before .write64 .ensures) _ _ (c .before .before .before .before .before .before .place .given .1) (c .before .before .before .before .slot-of .ensures) .0 in let f = plan-facts (c .before .before .before .before .before .before .before .before .before .before .before .before .before .before .before .before .before .loop .inv .valid .valid .planned) in omega arith
+add-count c = let p = placing-put _ _ _ _ _ _ (c .before .before .before .before .before .before .before .before .before .before .before .before .before .before .before .before .loop .inv) (c .before .before .before .before .before .before .before .before .before .before .before .before .before .before .before .loop-test .taken) _ (c .before .before .before .before .before .before .before .before .before .before .before .before .before .before .word-at .ensures) _ _ _ (c .before .before .before .before .before .before .before .before .before .before .before .settle .kept .1 .1 .1 .0) (c .before .before .before .before .before .before .before .before .before .before .before .settle .ensures) _ _ (c .before .before .write64 .ensures) (omega arith) (c .before .before .before .before .before .slot .given .1) .0 in let f = plan-facts (c .before .before .before .before .before .before .before .before .before .before .before .before .before .before .before .before .loop .inv .placing .valid .planned) in omega arith
 
 add-i : tie.Need-add-i Inv-loop μ-loop
-add-i c = let l = c .before .before .before .before .before .before .before .before .before .before .before .before .before .before .before .before .loop-test .taken in omega (arith, c .before .before .before .before .before .before .before .before .before .before .before .before .before .before .before .before .before .before .before .before .before .before .good .1 .1 .1 .1 .0 .1)
+add-i c = let l = c .before .before .before .before .before .before .before .before .before .before .before .before .before .before .before .loop-test .taken in omega (arith, c .before .before .before .before .before .before .before .before .before .before .before .before .before .before .before .before .before .before .before .before .before .good .1 .1 .1 .1 .0 .1)
 
 loop-less : tie.Need-loop-less Inv-loop μ-loop
-loop-less c = let l = c .before .before .before .before .before .before .before .before .before .before .before .before .before .before .before .before .loop-test .taken in omega arith
+loop-less c = let l = c .before .before .before .before .before .before .before .before .before .before .before .before .before .before .before .loop-test .taken in omega arith
 
 loop-again : tie.Need-loop-again Inv-loop μ-loop
-loop-again c = placing-inserted _ _ _ _ _ _ (c .before .before .before .before .before .before .before .before .before .before .before .before .before .before .before .before .before .loop .inv) (c .before .before .before .before .before .before .before .before .before .before .before .before .before .before .before .before .loop-test .taken) _ (c .before .before .before .before .before .before .before .before .before .before .before .before .before .before .before .word-at .ensures) _ _ _ (c .before .before .before .before .before .before .before .before .before .before .before .before .put .kept .1 .1 .1 .0) (c .before .before .before .before .before .before .before .before .before .before .before .before .put .ensures) (c .before .before .before .before .slot-of .result) (omega arith) _ (c .before .before .write64 .ensures) _ _ (c .before .before .before .before .before .before .place .given .1) (c .before .before .before .before .slot-of .ensures) .1
+loop-again c = placing-put _ _ _ _ _ _ (c .before .before .before .before .before .before .before .before .before .before .before .before .before .before .before .before .loop .inv) (c .before .before .before .before .before .before .before .before .before .before .before .before .before .before .before .loop-test .taken) _ (c .before .before .before .before .before .before .before .before .before .before .before .before .before .before .word-at .ensures) _ _ _ (c .before .before .before .before .before .before .before .before .before .before .before .settle .kept .1 .1 .1 .0) (c .before .before .before .before .before .before .before .before .before .before .before .settle .ensures) _ _ (c .before .before .write64 .ensures) (omega arith) (c .before .before .before .before .before .slot .given .1) .1
 
-enum-known-place-2 : tie.Need-enum-known-place-2 Inv-loop μ-loop
-enum-known-place-2 c = search needs
-
-slot-of-requires-2 : tie.Need-slot-of-requires-2 Inv-loop μ-loop
-slot-of-requires-2 c κs = search needs
+enum-known-slot-2 : tie.Need-enum-known-slot-2 Inv-loop μ-loop
+enum-known-slot-2 c = search needs
 
 mul-write64-2 : tie.Need-mul-write64-2 Inv-loop μ-loop
-mul-write64-2 c = let l = c .before .before .before .before .before .before .before .before .before .before .before .before .before .loop-test .taken in omega (arith, c .before .before .before .before .before .before .before .before .before .before .before .before .before .before .before .before .before .before .before .good .1 .1 .1 .1 .0 .1)
+mul-write64-2 c = let l = c .before .before .before .before .before .before .before .before .before .before .before .before .loop-test .taken in omega (arith, c .before .before .before .before .before .before .before .before .before .before .before .before .before .before .before .before .before .before .good .1 .1 .1 .1 .0 .1)
 
 write64-requires-2 : tie.Need-write64-requires-2 Inv-loop μ-loop
-write64-requires-2 c κs = let p = c .before .before .before .before .before .before .before .before .before .before .before .before .before .before .loop .inv in let q = p .room .room in let l = c .before .before .before .before .before .before .before .before .before .before .before .before .before .loop-test .taken in omega arith
+write64-requires-2 c κs = let q = c .before .before .before .before .before .before .before .before .before .before .before .before .before .loop .inv .room .room in let l = c .before .before .before .before .before .before .before .before .before .before .before .before .loop-test .taken in omega arith
 
 add-i-2 : tie.Need-add-i-2 Inv-loop μ-loop
-add-i-2 c = let l = c .before .before .before .before .before .before .before .before .before .before .before .before .before .before .before .before .loop-test .taken in omega (arith, c .before .before .before .before .before .before .before .before .before .before .before .before .before .before .before .before .before .before .before .before .before .before .good .1 .1 .1 .1 .0 .1)
+add-i-2 c = let l = c .before .before .before .before .before .before .before .before .before .before .before .before .before .before .before .loop-test .taken in omega (arith, c .before .before .before .before .before .before .before .before .before .before .before .before .before .before .before .before .before .before .before .before .before .good .1 .1 .1 .1 .0 .1)
 
 loop-less-2 : tie.Need-loop-less-2 Inv-loop μ-loop
-loop-less-2 c = let l = c .before .before .before .before .before .before .before .before .before .before .before .before .before .before .before .before .loop-test .taken in omega arith
+loop-less-2 c = let l = c .before .before .before .before .before .before .before .before .before .before .before .before .before .before .before .loop-test .taken in omega arith
 
 loop-again-2 : tie.Need-loop-again-2 Inv-loop μ-loop
-loop-again-2 c = placing-duplicate _ _ _ _ _ _ (c .before .before .before .before .before .before .before .before .before .before .before .before .before .before .before .before .before .loop .inv) (c .before .before .before .before .before .before .before .before .before .before .before .before .before .before .before .before .loop-test .taken) _ (c .before .before .before .before .before .before .before .before .before .before .before .before .before .before .before .word-at .ensures) _ _ _ (c .before .before .before .before .before .before .before .before .before .before .before .before .put .kept .1 .1 .1 .0) (c .before .before .before .before .before .before .before .before .before .before .before .before .put .ensures) (c .before .before .before .before .slot-of2 .result) (omega arith) _ (c .before .before .write642 .ensures) _ _ (c .before .before .before .before .before .before .place2 .given .1) (c .before .before .before .before .slot-of2 .ensures)
+loop-again-2 c = placing-there _ _ _ _ _ _ (c .before .before .before .before .before .before .before .before .before .before .before .before .before .before .before .before .loop .inv) (c .before .before .before .before .before .before .before .before .before .before .before .before .before .before .before .loop-test .taken) _ (c .before .before .before .before .before .before .before .before .before .before .before .before .before .before .word-at .ensures) _ _ _ (c .before .before .before .before .before .before .before .before .before .before .before .settle .kept .1 .1 .1 .0) (c .before .before .before .before .before .before .before .before .before .before .before .settle .ensures) _ _ (c .before .before .write642 .ensures) (omega arith) (c .before .before .before .before .before .slot2 .given .1)
 
-enum-known-refusal : tie.Need-enum-known-refusal Inv-loop μ-loop
-enum-known-refusal c = search needs
+enum-known-answer : tie.Need-enum-known-answer Inv-loop μ-loop
+enum-known-answer c = search needs
 
 with-count-requires : tie.Need-with-count-requires Inv-loop μ-loop
 with-count-requires c κs = search needs
 
 same-length : tie.Need-same-length Inv-loop μ-loop
-same-length c = placing-lengths _ _ _ _ _ _ (c .before .before .before .before .before .before .before .before .before .before .before .before .before .loop .inv) (c .before .before .before .before .before .before .before .before .before .before .before .before .loop-test .taken) _ (c .before .before .before .before .before .before .before .before .before .before .before .word-at .ensures) _ _ _ (c .before .before .before .before .before .before .before .before .put .kept .1 .1 .1 .0) (c .before .before .before .before .before .before .before .before .put .ensures) .0
+same-length c = placing-lengths _ _ _ _ _ _ (c .before .before .before .before .before .before .before .before .before .before .before .before .before .loop .inv) (c .before .before .before .before .before .before .before .before .before .before .before .before .loop-test .taken) _ (c .before .before .before .before .before .before .before .before .before .before .before .word-at .ensures) _ _ _ (c .before .before .before .before .before .before .before .before .settle .kept .1 .1 .1 .0) (c .before .before .before .before .before .before .before .before .settle .ensures) .0
 
 same-length-2 : tie.Need-same-length-2 Inv-loop μ-loop
-same-length-2 c = placing-lengths _ _ _ _ _ _ (c .before .before .before .before .before .before .before .before .before .before .before .before .before .loop .inv) (c .before .before .before .before .before .before .before .before .before .before .before .before .loop-test .taken) _ (c .before .before .before .before .before .before .before .before .before .before .before .word-at .ensures) _ _ _ (c .before .before .before .before .before .before .before .before .put .kept .1 .1 .1 .0) (c .before .before .before .before .before .before .before .before .put .ensures) .1
+same-length-2 c = placing-lengths _ _ _ _ _ _ (c .before .before .before .before .before .before .before .before .before .before .before .before .before .loop .inv) (c .before .before .before .before .before .before .before .before .before .before .before .before .loop-test .taken) _ (c .before .before .before .before .before .before .before .before .before .before .before .word-at .ensures) _ _ _ (c .before .before .before .before .before .before .before .before .settle .kept .1 .1 .1 .0) (c .before .before .before .before .before .before .before .before .settle .ensures) .1
 
 same-length-3 : tie.Need-same-length-3 Inv-loop μ-loop
 same-length-3 c = c .before .before .before .before .before .before .before .before .before .before .before .before .before .loop .inv .same-slots
 
 returns : tie.Need-returns Inv-loop μ-loop
-returns c = placed-table _ _ _ _ _ _ _ (c .with-count .ensures) (placing-range _ _ _ _ _ _ (c .before .before .before .before .before .before .before .before .before .before .before .before .before .loop .inv) (c .before .before .before .before .before .before .before .before .before .before .before .before .loop-test .taken) _ (c .before .before .before .before .before .before .before .before .before .before .before .word-at .ensures) _ _ _ (c .before .before .before .before .before .before .before .before .put .kept .1 .1 .1 .0) (c .before .before .before .before .before .before .before .before .put .ensures) _ (c .before .before .refusal .given .1))
-
-enum-known-probes : tie.Need-enum-known-probes Inv-loop μ-loop
-enum-known-probes c = search needs
+returns c = placed-table _ _ _ _ _ _ _ (c .with-count .ensures) (placing-refused _ _ _ _ _ _ (c .before .before .before .before .before .before .before .before .before .before .before .before .before .loop .inv) (c .before .before .before .before .before .before .before .before .before .before .before .before .loop-test .taken) _ (c .before .before .before .before .before .before .before .before .before .before .before .word-at .ensures) _ _ _ (c .before .before .before .before .before .before .before .before .settle .kept .1 .1 .1 .0) (c .before .before .before .before .before .before .before .before .settle .ensures) _ (c .before .before .answer .given .1))
 
 with-count-requires-2 : tie.Need-with-count-requires-2 Inv-loop μ-loop
 with-count-requires-2 c κs = search needs
 
 same-length-4 : tie.Need-same-length-4 Inv-loop μ-loop
-same-length-4 c = placing-lengths _ _ _ _ _ _ (c .before .before .before .before .before .before .before .before .before .before .before .before .before .loop .inv) (c .before .before .before .before .before .before .before .before .before .before .before .before .loop-test .taken) _ (c .before .before .before .before .before .before .before .before .before .before .before .word-at .ensures) _ _ _ (c .before .before .before .before .before .before .before .before .put .kept .1 .1 .1 .0) (c .before .before .before .before .before .before .before .before .put .ensures) .0
+same-length-4 c = c .before .before .loop .inv .same-words
 
 same-length-5 : tie.Need-same-length-5 Inv-loop μ-loop
-same-length-5 c = placing-lengths _ _ _ _ _ _ (c .before .before .before .before .before .before .before .before .before .before .before .before .before .loop .inv) (c .before .before .before .before .before .before .before .before .before .before .before .before .loop-test .taken) _ (c .before .before .before .before .before .before .before .before .before .before .before .word-at .ensures) _ _ _ (c .before .before .before .before .before .before .before .before .put .kept .1 .1 .1 .0) (c .before .before .before .before .before .before .before .before .put .ensures) .1
+same-length-5 c = c .before .before .loop .inv .placing .same-flags
 
 same-length-6 : tie.Need-same-length-6 Inv-loop μ-loop
-same-length-6 c = c .before .before .before .before .before .before .before .before .before .before .before .before .before .loop .inv .same-slots
+same-length-6 c = c .before .before .loop .inv .same-slots
 
 returns-2 : tie.Need-returns-2 Inv-loop μ-loop
-returns-2 c = placed-table _ _ _ _ _ _ _ (c .with-count2 .ensures) (placing-exhausted _ _ _ _ _ _ (c .before .before .before .before .before .before .before .before .before .before .before .before .before .loop .inv) (c .before .before .before .before .before .before .before .before .before .before .before .before .loop-test .taken) _ (c .before .before .before .before .before .before .before .before .before .before .before .word-at .ensures) _ _ _ (c .before .before .before .before .before .before .before .before .put .kept .1 .1 .1 .0) (c .before .before .before .before .before .before .before .before .put .ensures) _ (c .before .before .probes .given .1))
-
-enum-known-probes-2 : tie.Need-enum-known-probes-2 Inv-loop μ-loop
-enum-known-probes-2 c = search needs
-
-with-count-requires-3 : tie.Need-with-count-requires-3 Inv-loop μ-loop
-with-count-requires-3 c κs = search needs
-
-same-length-7 : tie.Need-same-length-7 Inv-loop μ-loop
-same-length-7 c = placing-lengths _ _ _ _ _ _ (c .before .before .before .before .before .before .before .before .before .before .before .before .before .loop .inv) (c .before .before .before .before .before .before .before .before .before .before .before .before .loop-test .taken) _ (c .before .before .before .before .before .before .before .before .before .before .before .word-at .ensures) _ _ _ (c .before .before .before .before .before .before .before .before .put .kept .1 .1 .1 .0) (c .before .before .before .before .before .before .before .before .put .ensures) .0
-
-same-length-8 : tie.Need-same-length-8 Inv-loop μ-loop
-same-length-8 c = placing-lengths _ _ _ _ _ _ (c .before .before .before .before .before .before .before .before .before .before .before .before .before .loop .inv) (c .before .before .before .before .before .before .before .before .before .before .before .before .loop-test .taken) _ (c .before .before .before .before .before .before .before .before .before .before .before .word-at .ensures) _ _ _ (c .before .before .before .before .before .before .before .before .put .kept .1 .1 .1 .0) (c .before .before .before .before .before .before .before .before .put .ensures) .1
-
-same-length-9 : tie.Need-same-length-9 Inv-loop μ-loop
-same-length-9 c = c .before .before .before .before .before .before .before .before .before .before .before .before .before .loop .inv .same-slots
-
-returns-3 : tie.Need-returns-3 Inv-loop μ-loop
-returns-3 c = placed-table _ _ _ _ _ _ _ (c .with-count3 .ensures) (placing-full _ _ _ _ _ _ (c .before .before .before .before .before .before .before .before .before .before .before .before .before .loop .inv) (c .before .before .before .before .before .before .before .before .before .before .before .before .loop-test .taken) _ (c .before .before .before .before .before .before .before .before .before .before .before .word-at .ensures) _ _ _ (c .before .before .before .before .before .before .before .before .put .kept .1 .1 .1 .0) (c .before .before .before .before .before .before .before .before .put .ensures) _ (c .before .before .probes2 .given .1))
-
-with-count-requires-4 : tie.Need-with-count-requires-4 Inv-loop μ-loop
-with-count-requires-4 c κs = search needs
-
-same-length-10 : tie.Need-same-length-10 Inv-loop μ-loop
-same-length-10 c = c .before .before .loop .inv .same-words
-
-same-length-11 : tie.Need-same-length-11 Inv-loop μ-loop
-same-length-11 c = c .before .before .loop .inv .same-flags
-
-same-length-12 : tie.Need-same-length-12 Inv-loop μ-loop
-same-length-12 c = c .before .before .loop .inv .same-slots
-
-returns-4 : tie.Need-returns-4 Inv-loop μ-loop
-returns-4 c = placed-table _ _ _ _ _ _ _ (c .with-count4 .ensures) (placing-all _ _ _ _ _ _ (c .before .before .loop .inv) (c .before .loop-test .left))
+returns-2 c = placed-table _ _ _ _ _ _ _ (c .with-count2 .ensures) (placing-all _ _ _ _ _ _ (c .before .before .loop .inv) (c .before .loop-test .left))
 
 pub place-all-spec : {M : Type 1} → statement M
 place-all-spec =
@@ -146,42 +105,28 @@ place-all-spec =
     μ-loop
     loop-holds
     word-at-requires
-    put-requires
-    enum-known-place
-    slot-of-requires
+    settle-requires
+    enum-known-slot
     mul-write64
     write64-requires
     add-count
     add-i
     loop-less
     loop-again
-    enum-known-place-2
-    slot-of-requires-2
+    enum-known-slot-2
     mul-write64-2
     write64-requires-2
     add-i-2
     loop-less-2
     loop-again-2
-    enum-known-refusal
+    enum-known-answer
     with-count-requires
     same-length
     same-length-2
     same-length-3
     returns
-    enum-known-probes
     with-count-requires-2
     same-length-4
     same-length-5
     same-length-6
-    returns-2
-    enum-known-probes-2
-    with-count-requires-3
-    same-length-7
-    same-length-8
-    same-length-9
-    returns-3
-    with-count-requires-4
-    same-length-10
-    same-length-11
-    same-length-12
-    returns-4)
+    returns-2)

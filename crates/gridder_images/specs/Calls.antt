@@ -1,0 +1,77 @@
+-- The exported calls on images: what each answers and leaves. Assumes nothing.
+use mathlib.Core.Bool.{not}
+use mathlib.Core.List.{List, []}
+use Prim.Native.Nat.{ℕ}
+use lib.Dec.{eqb}
+use lib.ListN.{length}
+use Rattle.refusal.specs.Table.{numberOf, nameOf}
+use Rattle.refusal.specs.declared.Gate.the-variants as gate
+use Rattle.refusal.specs.declared.Name.the-variants as name
+use Rattle.words.specs.Pick.{pick}
+use Rattle.geometry.specs.Config.{refuseIf}
+use Rattle.geometry.specs.declared.config.Gated.{Gated}
+use Rattle.geometry.specs.declared.config.Gated.the-variants.{Passed, Refused}
+use Rattle.funnel.specs.Calls.{gateThen}
+use Rattle.funnel.specs.declared.table.FunnelTable.{FunnelTable}
+use Rattle.image.specs.Calls.{writeGate, loadedOf, loadedReport, writtenReport}
+use Rattle.image.specs.Loading.{Loads, loadOf}
+use Rattle.image.specs.declared.loader.Filled.{Filled}
+use Rattle.image.specs.declared.loader.Filled.the-variants as filled
+use Rattle.lent.specs.Lent.{wordsOf, wordCount}
+use Rattle.gridder.specs.Answer.{answerLength, says, saying}
+use Rattle.gridder.specs.Calls.{stateGate, Left, left}
+use Rattle.gridder.specs.State.{holdsFunnel, tableIn, countsIn, withCountIn}
+use Rattle.gridder_images.specs.Say.{filledFields, writtenFields}
+use Rattle.gridder_images.specs.Write.{Wrotes, wroteOf}
+
+-- ---- loading
+
+-- "sets the count from 6"; a refusal leaves the state as on entry
+unfoldable pub filledIn : List ℕ → Filled → List ℕ
+filledIn state (filled.Image place) = state
+filledIn state filled.Foreign = state
+filledIn state (filled.Done count at len) = withCountIn state count
+
+unfoldable pub loadLeft : (answer state words flags : List ℕ) → Gated → FunnelTable → Loads → Left
+loadLeft answer state words flags (Refused g) table l = left (numberOf (nameOf g)) (saying answer []) state words flags
+loadLeft answer state words flags Passed table l =
+    left (loadedReport (loadedOf table (l .answer)) .number) (says (filledFields (l .answer))) (filledIn state (l .answer)) (l .words) (l .flags)
+
+-- words are given and left as the words that the bytes are; "one that holds no state, is STATE ..; then .. the answer block stays as it was"
+unfoldable pub loadCall : (state words flags image answer : List ℕ) → Left
+loadCall state words flags image answer =
+    pick (holdsFunnel state)
+    (loadLeft answer state (wordsOf words) flags (stateGate state words flags answer) (tableIn state)
+    (loadOf (tableIn state .n) (tableIn state .e) (tableIn state .seed) (wordsOf words) flags image))
+    (left (numberOf name.State) answer state (wordsOf words) flags)
+
+-- ---- writing
+
+-- what a writing leaves: the number of its refusal, the answer block and the image
+pub record Sent : Type 0 where
+  pub number : ℕ
+  pub answer : List ℕ
+  pub image : List ℕ
+
+abbrev pub sent : ℕ → (answer image : List ℕ) → Sent
+sent number answer image = record { number = number; answer = answer; image = image }
+
+-- the writer's tests 1 to 7, by the number of words and the lengths of flags, label and answer block
+unfoldable pub writeCallGate : FunnelTable → List ℕ → (words flags label answer : ℕ) → Gated
+writeCallGate table counts words flags label answer =
+    gateThen (writeGate table counts words flags label) (refuseIf (not (eqb answer answerLength)) gate.State Passed)
+
+-- the same for a table in a state block, with words lent as bytes
+abbrev pub writeStateGate : (state words flags label answer : List ℕ) → Gated
+writeStateGate state words flags label answer = writeCallGate (tableIn state) (countsIn state) (wordCount (length words)) (length flags) (length label) (length answer)
+
+unfoldable pub writeLeft : (answer image : List ℕ) → Gated → Wrotes → Sent
+writeLeft answer image (Refused g) w = sent (numberOf (nameOf g)) (saying answer []) image
+writeLeft answer image Passed w = sent (writtenReport (w .answer) .number) (says (writtenFields (w .answer) (w .need))) (w .out)
+
+unfoldable pub writeCall : (state words flags label image answer : List ℕ) → Sent
+writeCall state words flags label image answer =
+    pick (holdsFunnel state)
+    (writeLeft answer image (writeStateGate state words flags label answer)
+    (wroteOf (tableIn state .n) (tableIn state .e) (tableIn state .seed) label (wordsOf words) flags image))
+    (sent (numberOf name.State) answer image)

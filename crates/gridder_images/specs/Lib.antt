@@ -1,0 +1,7 @@
+pub mod Write
+pub mod Say
+pub mod Calls
+pub mod FillLaws
+pub mod WriteLaws
+pub mod SayLaws
+pub mod CallLaws

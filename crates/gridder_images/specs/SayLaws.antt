@@ -1,0 +1,37 @@
+-- Laws of what the calls on images say. Assumes nothing.
+use mathlib.Core.List.{List, [], _∷_}
+use mathlib.Core.Path.{_≡_, refl, _∙_}
+use Prim.Native.Nat.{ℕ}
+use lib.ListN.{replicate}
+use lib.Seq.{sets}
+use Rattle.words.specs.Bytes.{bytesOf}
+use Rattle.funnel.specs.declared.table.FunnelTable.{FunnelTable}
+use Rattle.image.specs.Calls.{loadedOf, loadedReport, writtenReport}
+use Rattle.image.specs.declared.loader.Filled.{Filled}
+use Rattle.image.specs.declared.loader.Filled.the-variants as filled
+use Rattle.image.specs.declared.writer.Written.{Written}
+use Rattle.gridder.specs.Answer.{answerLength, field, stored, says, reply}
+use Rattle.gridder_images.specs.Say.{filledFields, filledNumber, writtenFields}
+
+-- a block that was zeroed and then written twice
+pub said-pair : (n : ℕ) (zeros : List ℕ) → n ≡ answerLength → zeros ≡ replicate n 0 → (at x to y : ℕ) (a b : List ℕ) → a ≡ sets zeros at (bytesOf 8 x) → b ≡ sets a to (bytesOf 8 y)
+    → b ≡ says (field at x ∷ field to y ∷ [])
+unfolding says stored
+said-pair n zeros long cleared at x to y a b e f = f ∙ rw (e, cleared, long)
+
+-- what a loading and a writing say, by their answer
+module _ (f : Filled) (n : ℕ) (a : List ℕ) where
+  pub load-says : (x : Filled) → f ≡ x → n ≡ filledNumber x → a ≡ says (filledFields x) → reply n a ≡ reply (filledNumber f) (says (filledFields f))
+  load-says x e p q = rw (e, p, q)
+
+module _ (w : Written) (need n : ℕ) (a : List ℕ) where
+  pub write-says : (x : Written) → w ≡ x → n ≡ writtenReport x .number → a ≡ says (writtenFields x need)
+      → reply n a ≡ reply (writtenReport w .number) (says (writtenFields w need))
+  write-says x e p q = rw (e, p, q)
+
+-- the number of a loading is the base's
+pub loaded-number : (table : FunnelTable) (f : Filled) → filledNumber f ≡ loadedReport (loadedOf table f) .number
+unfolding loadedOf
+loaded-number table (filled.Image place) = refl
+loaded-number table filled.Foreign = refl
+loaded-number table (filled.Done count at len) = refl
