@@ -16,7 +16,6 @@
 #include <stdio.h>
 #include <stdlib.h>
 #include <string.h>
-#include <sys/stat.h>
 #include <sys/time.h>
 #include <unistd.h>
 
@@ -24,6 +23,7 @@ enum { ACCEPTED = 0, NOT_MADE = 1, REFUSED = 2 };
 
 #define USUAL_CAP 8
 #define MOST_CAP 256
+#define MOST_NAME 4096
 
 /* The bytes of a file. */
 struct file {
@@ -438,6 +438,8 @@ int main(int count, char **words)
         cap = parse_cap(words[2]);
     if (cap == 0)
         return misuse("the word cap is not a number from 1 to 256");
+    if (strlen(words[1]) > MOST_NAME)
+        return misuse("the name of the file is too long");
     start_progress();
     status = examine_file(words[1], cap);
     stop_progress();

@@ -276,7 +276,7 @@ int main(int count, char **words)
 {
     struct options options = read_options(count, words);
     struct gridder g;
-    uint64_t samples;
+    uint64_t samples, before;
     open_table(&g, (uint64_t)GRID * GRID);
     if (options.from_image != NULL) {
         load_image(&g, options.from_image);
@@ -284,6 +284,7 @@ int main(int count, char **words)
             check_table(&g);
         load_sums(&g, options.from_sums);
     }
+    before = landovireph_state_count(g.state);
     samples = grid_samples(&g, options.samples);
     if (options.to_image != NULL) {
         write_image(&g, options.to_image);
@@ -291,7 +292,8 @@ int main(int count, char **words)
     }
     if (options.picture != NULL)
         write_picture(&g, options.picture);
-    printf("%" PRIu64 " samples, %" PRIu64 " cells in a table of %" PRIu64 " slots\n", samples, landovireph_state_count(g.state), g.n);
+    printf("%" PRIu64 " samples; %" PRIu64 " cells entered, %" PRIu64 " in all, in a table of %" PRIu64 " slots\n", samples,
+           landovireph_state_count(g.state) - before, landovireph_state_count(g.state), g.n);
     close_table(&g);
     return 0;
 }
