@@ -13,7 +13,7 @@ CFLAGS ?= -O2 -g
 AR ?= ar
 
 # The crates whose exported calls the archive has; and those that their code comes from.
-EXPORTING = gridder
+EXPORTING = gridder gridder_images
 BELOW = words refusal geometry probe funnel elastic image audit lent
 
 OUT = target/c

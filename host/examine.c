@@ -68,11 +68,13 @@ static void show_progress(int signal_number)
     errno = saved;
 }
 
-static void start_progress(void)
+/* From now on a line each second says what the program is at, until stop_progress. Nothing is printed in between. */
+static void start_progress(const char *what)
 {
     static const struct itimerval each_second = { { 1, 0 }, { 1, 0 } };
     struct sigaction action;
-    stage = "reading";
+    stage = what;
+    seconds = 0;
     if (!isatty(STDERR_FILENO))
         return;
     memset(&action, 0, sizeof action);
@@ -82,7 +84,7 @@ static void start_progress(void)
     setitimer(ITIMER_REAL, &each_second, NULL);
 }
 
-/* Takes the line away before the answer is shown. */
+/* Takes the line away. */
 static void stop_progress(void)
 {
     static const struct itimerval never = { { 0, 0 }, { 0, 0 } };
@@ -284,7 +286,6 @@ static uint64_t load(struct table *table, struct file image)
                                    image.bytes, image.length, table->answer, sizeof table->answer);
 }
 
-/* The check runs before its progress line is taken away; then all that follows is printed at once. */
 static int check_loaded(struct table *table, struct file image)
 {
     uint8_t *marks = must_have(table->n), *order = must_have(8 * table->n);
@@ -292,7 +293,7 @@ static int check_loaded(struct table *table, struct file image)
     int status;
     print_label(image, table);
     print_members(table);
-    stage = "checking";
+    start_progress("checking");
     refused = landovireph_funnel_check(table->state, sizeof table->state, table->words, 8 * table->n, table->flags, table->n,
                                        marks, table->n, order, 8 * table->n, table->answer, sizeof table->answer);
     stop_progress();
@@ -305,22 +306,25 @@ static int check_loaded(struct table *table, struct file image)
 static int examine_table(struct file image, struct given given)
 {
     struct table table;
-    uint64_t refused = table_open(&table, given.n, given.e, given.seed, given.cap, table_most_slots());
+    uint64_t refused;
     int status;
+    start_progress("loading");
+    refused = table_open(&table, given.n, given.e, given.seed, given.cap, table_most_slots());
+    if (refused == 0) {
+        refused = load(&table, image);
+        if (refused != 0)
+            table_close(&table);
+    }
+    stop_progress();
     if (refused == TABLE_TOO_LARGE) {
         printf("refused     a table of %" PRIu64 " slots is larger than this machine's memory holds\n", given.n);
         return REFUSED;
     }
+    if (refused == LANDOVIREPH_IMAGE)
+        return print_malformed(image, landovireph_get(table.answer, LANDOVIREPH_ANSWER_BYTE));
     if (refused != 0)
         return print_refused(refused);
-    stage = "loading";
-    refused = load(&table, image);
-    if (refused == 0)
-        status = check_loaded(&table, image);
-    else if (refused == LANDOVIREPH_IMAGE)
-        status = print_malformed(image, landovireph_get(table.answer, LANDOVIREPH_ANSWER_BYTE));
-    else
-        status = print_refused(refused);
+    status = check_loaded(&table, image);
     table_close(&table);
     return status;
 }
@@ -358,7 +362,11 @@ static int examine(struct file image, uint64_t cap)
 {
     uint64_t place;
     struct given given;
-    if (!is_well_formed(image, &place))
+    bool right;
+    start_progress("reading");
+    right = is_well_formed(image, &place);
+    stop_progress();
+    if (!right)
         return print_malformed(image, place);
     given = read_given(image, cap);
     printf("n           %" PRIu64 " slots\ne           %" PRIu32 "\nseed        %" PRIu64 "\n", given.n, given.e, given.seed);
@@ -401,10 +409,14 @@ static int examine_file(const char *path, uint64_t cap)
 {
     struct file file = { NULL, 0 };
     FILE *stream = fopen(path, "rb");
+    bool read;
     int status;
     if (stream == NULL)
         return unreadable(path);
-    status = read_stream(stream, &file) ? examine(file, cap) : unreadable(path);
+    start_progress("reading");
+    read = read_stream(stream, &file);
+    stop_progress();
+    status = read ? examine(file, cap) : unreadable(path);
     fclose(stream);
     free(file.bytes);
     return status;
@@ -440,8 +452,6 @@ int main(int count, char **words)
         return misuse("the word cap is not a number from 1 to 256");
     if (strlen(words[1]) > MOST_NAME)
         return misuse("the name of the file is too long");
-    start_progress();
     status = examine_file(words[1], cap);
-    stop_progress();
     return fflush(stdout) == 0 ? status : 3;
 }

@@ -649,6 +649,9 @@ static void try_write(void)
     keeps_rules(result, may);
     keeps_table();
     must(same(LABEL), "the label was changed");
+    if (result == LANDOVIREPH_ROOM)
+        must(landovireph_get(arenas[ANSWER].at, LANDOVIREPH_ANSWER_IMAGE_BYTES) == needed && needed > arenas[IMAGE].length,
+             "ROOM without the length that is needed");
     if (result != 0) {
         must(same(IMAGE), "a refusal wrote the image");
         return;

@@ -302,8 +302,8 @@ uint64_t landovireph_funnel_load(uint8_t *state, size_t state_bytes,
 
 /*
  * The table's image, with a label of up to 64 bytes (length 0: none). Answers the image's length; bytes behind it stay.
- * landovireph_image_bytes says how long a buffer is always enough.
- * Refusals: 1 to 7, LIMITS also for a longer label; DIRTY with slot; ROOM.
+ * landovireph_image_bytes says how long a buffer it needs.
+ * Refusals: 1 to 7, LIMITS also for a longer label; DIRTY with slot; ROOM with the length that the image needs.
  */
 uint64_t landovireph_funnel_write(const uint8_t *state, size_t state_bytes,
                                   const uint8_t *words, size_t words_bytes,
