@@ -13,6 +13,7 @@ mod exact {
 
 mod calls;
 mod elastics;
+mod exported;
 mod funnels;
 mod hostile;
 mod images;
@@ -33,4 +34,5 @@ fn main() {
     elastics::rows(&mut table);
     images::rows(&mut table);
     hostile::rows(&mut table);
+    exported::rows(&mut table);
 }

@@ -1,0 +1,68 @@
+# The library for C: the archive, its header, and the programs over it. The code comes from proved crates, so building it needs the
+# Rattle toolchain (`rt`); using it needs a C compiler alone.
+#
+#     make                        target/c/liblandovireph.a, target/c/landovireph.pc, and the programs
+#     make check                  the host tests in C
+#     make install PREFIX=DIR     header, archive and .pc file to DIR (default /usr/local)
+#     make demonstration          the pictures of docs/ANSWER.md, to target/c/demonstration
+
+PREFIX ?= /usr/local
+DESTDIR ?=
+CC ?= cc
+CFLAGS ?= -O2 -g
+AR ?= ar
+
+# The crates whose exported calls the archive has; and those that their code comes from.
+EXPORTING = gridder gridder_images
+BELOW = words refusal geometry probe funnel elastic image audit lent
+
+OUT = target/c
+VERSION := $(shell sed -n 's/^.define LANDOVIREPH_VERSION "\(.*\)"/\1/p' include/landovireph.h)
+LIBRARIES = $(EXPORTING:%=target/staticlib/lib%.a)
+COMPILE = $(CC) -std=gnu99 -Wall -Wextra $(CFLAGS) -Iinclude
+PROGRAMS = $(OUT)/replay $(OUT)/examine $(OUT)/guard
+DEMONSTRATION = $(OUT)/samples $(OUT)/gridder $(OUT)/tidy $(OUT)/sources
+
+all: $(OUT)/liblandovireph.a $(OUT)/landovireph.pc $(PROGRAMS) $(DEMONSTRATION)
+
+# Proves the crate, and compiles what is proved.
+target/staticlib/lib%.a: $(shell find $(EXPORTING:%=crates/%/src) $(BELOW:%=crates/%/src) -name '*.rt')
+	rt staticlib $*
+
+# One archive of the crates' objects. Each has its own copy of what it shares with the others, under local names.
+$(OUT)/liblandovireph.a: $(LIBRARIES) host/join
+	host/join $@ $(LIBRARIES)
+
+$(OUT)/landovireph.pc: host/landovireph.pc.in include/landovireph.h Makefile
+	@mkdir -p $(OUT)
+	sed -e 's|@PREFIX@|$(PREFIX)|' -e 's|@VERSION@|$(VERSION)|' $< > $@
+
+$(OUT)/replay: host/replay.c host/line.c host/line.h host/table.c host/table.h
+$(OUT)/examine: host/examine.c host/table.c host/table.h
+$(OUT)/guard: host/guard.c
+
+$(PROGRAMS): include/landovireph.h $(OUT)/liblandovireph.a
+	$(COMPILE) -Ihost $(filter %.c,$^) $(OUT)/liblandovireph.a -o $@
+
+$(DEMONSTRATION): $(OUT)/%: examples/gridder/%.c examples/gridder/grid.h include/landovireph.h $(OUT)/liblandovireph.a
+	$(COMPILE) $< $(OUT)/liblandovireph.a -lm -o $@
+
+check: all
+	host/test
+
+demonstration: $(DEMONSTRATION)
+	examples/gridder/demonstrate
+
+# The .pc file is made anew, since PREFIX may be another than at the time of `make`.
+install: $(OUT)/liblandovireph.a
+	rm -f $(OUT)/landovireph.pc
+	$(MAKE) $(OUT)/landovireph.pc PREFIX='$(PREFIX)'
+	install -d '$(DESTDIR)$(PREFIX)/include' '$(DESTDIR)$(PREFIX)/lib/pkgconfig'
+	install -m 644 include/landovireph.h '$(DESTDIR)$(PREFIX)/include/'
+	install -m 644 $(OUT)/liblandovireph.a '$(DESTDIR)$(PREFIX)/lib/'
+	install -m 644 $(OUT)/landovireph.pc '$(DESTDIR)$(PREFIX)/lib/pkgconfig/'
+
+clean:
+	rm -rf $(OUT)
+
+.PHONY: all check demonstration install clean

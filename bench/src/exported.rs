@@ -1,0 +1,278 @@
+//! The calls for C beside the core that they carry out: `place_all`, the check, a single insertion and search, and what the test of the
+//! state block costs. The second column is the core's time on the same inputs, over words that are numbers and not bytes.
+
+use std::hint::black_box;
+
+use crate::calls::{self, Funnel};
+use crate::funnels::{CAP, SEED, identity};
+use crate::measure::Table;
+
+unsafe extern "C" {
+    fn landovireph_funnel_open(
+        n: u64,
+        e: u32,
+        seed: u64,
+        word_cap: u64,
+        state: *mut u8,
+        state_len: usize,
+        words: *mut u8,
+        words_len: usize,
+        flags: *mut u8,
+        flags_len: usize,
+        answer: *mut u8,
+        answer_len: usize,
+    ) -> u64;
+    fn landovireph_funnel_search(
+        state: *const u8,
+        state_len: usize,
+        words: *const u8,
+        words_len: usize,
+        flags: *const u8,
+        flags_len: usize,
+        identity: u64,
+        answer: *mut u8,
+        answer_len: usize,
+    ) -> u64;
+    fn landovireph_funnel_insert(
+        state: *mut u8,
+        state_len: usize,
+        words: *mut u8,
+        words_len: usize,
+        flags: *mut u8,
+        flags_len: usize,
+        identity: u64,
+        answer: *mut u8,
+        answer_len: usize,
+    ) -> u64;
+    fn landovireph_funnel_place_all(
+        state: *mut u8,
+        state_len: usize,
+        words: *mut u8,
+        words_len: usize,
+        flags: *mut u8,
+        flags_len: usize,
+        identities: *const u8,
+        identities_len: usize,
+        slots: *mut u8,
+        slots_len: usize,
+        answer: *mut u8,
+        answer_len: usize,
+    ) -> u64;
+    fn landovireph_funnel_check(
+        state: *const u8,
+        state_len: usize,
+        words: *const u8,
+        words_len: usize,
+        flags: *const u8,
+        flags_len: usize,
+        marks: *mut u8,
+        marks_len: usize,
+        order: *mut u8,
+        order_len: usize,
+        answer: *mut u8,
+        answer_len: usize,
+    ) -> u64;
+}
+
+const STATE: usize = 2048;
+const ANSWER: usize = 128;
+const COUNT: usize = 40;
+
+/// A funnel table in its blocks and buffers. Words are held as numbers, whose bytes are lent, so that both sides' buffers have
+/// the same alignment.
+struct Lent {
+    state: [u8; STATE],
+    answer: [u8; ANSWER],
+    words: Vec<u64>,
+    flags: Vec<u8>,
+}
+
+impl Lent {
+    fn open(n: u64, e: u32) -> Self {
+        let mut table = Self {
+            state: [0; STATE],
+            answer: [0; ANSWER],
+            words: vec![0; n as usize],
+            flags: vec![0; n as usize],
+        };
+        let refused = unsafe {
+            landovireph_funnel_open(
+                n,
+                e,
+                SEED,
+                CAP,
+                table.state.as_mut_ptr(),
+                STATE,
+                table.words.as_mut_ptr().cast(),
+                8 * table.words.len(),
+                table.flags.as_mut_ptr(),
+                table.flags.len(),
+                table.answer.as_mut_ptr(),
+                ANSWER,
+            )
+        };
+        assert_eq!(refused, 0, "no table of {n} slots at exponent {e}");
+        table
+    }
+
+    fn clear(&mut self) {
+        self.words.fill(0);
+        self.flags.fill(0);
+        self.state[COUNT..COUNT + 8].fill(0);
+    }
+
+    fn search(&mut self, identity: u64) -> u64 {
+        unsafe {
+            landovireph_funnel_search(
+                self.state.as_ptr(),
+                STATE,
+                self.words.as_ptr().cast(),
+                8 * self.words.len(),
+                self.flags.as_ptr(),
+                self.flags.len(),
+                identity,
+                self.answer.as_mut_ptr(),
+                ANSWER,
+            )
+        }
+    }
+
+    fn insert(&mut self, identity: u64) -> u64 {
+        unsafe {
+            landovireph_funnel_insert(
+                self.state.as_mut_ptr(),
+                STATE,
+                self.words.as_mut_ptr().cast(),
+                8 * self.words.len(),
+                self.flags.as_mut_ptr(),
+                self.flags.len(),
+                identity,
+                self.answer.as_mut_ptr(),
+                ANSWER,
+            )
+        }
+    }
+
+    fn place_all(&mut self, identities: &[u64], slots: &mut [u64]) -> u64 {
+        unsafe {
+            landovireph_funnel_place_all(
+                self.state.as_mut_ptr(),
+                STATE,
+                self.words.as_mut_ptr().cast(),
+                8 * self.words.len(),
+                self.flags.as_mut_ptr(),
+                self.flags.len(),
+                identities.as_ptr().cast(),
+                8 * identities.len(),
+                slots.as_mut_ptr().cast(),
+                8 * slots.len(),
+                self.answer.as_mut_ptr(),
+                ANSWER,
+            )
+        }
+    }
+
+    fn check(&mut self, marks: &mut [u8], order: &mut [u64]) -> u64 {
+        unsafe {
+            landovireph_funnel_check(
+                self.state.as_ptr(),
+                STATE,
+                self.words.as_ptr().cast(),
+                8 * self.words.len(),
+                self.flags.as_ptr(),
+                self.flags.len(),
+                marks.as_mut_ptr(),
+                marks.len(),
+                order.as_mut_ptr().cast(),
+                8 * order.len(),
+                self.answer.as_mut_ptr(),
+                ANSWER,
+            )
+        }
+    }
+}
+
+pub fn rows(table: &mut Table) {
+    if !table.wants("exported") {
+        return;
+    }
+    for (n, e) in [(1 << 12, 3), (1 << 16, 3), (1 << 20, 3), (1 << 22, 3), (1 << 20, 6)] {
+        let n = (n..).find(|&n| calls::funnel_plan(n, e).is_some()).unwrap();
+        let maximum = calls::funnel_plan(n, e).unwrap().0[0];
+        let members: Vec<u64> = (0..maximum).map(identity).collect();
+        let mut ours = Lent::open(n, e);
+        let mut core = Funnel::open(n, e, SEED, CAP);
+        placing(table, &format!("n {n}, e {e}"), &members, &mut ours, &mut core);
+        checking(table, &format!("n {n}, e {e}"), &members, &mut ours, &mut core);
+        single(table, &format!("n {n}, e {e}"), &members, &mut ours, &mut core);
+        state_test(table, n, e);
+    }
+}
+
+fn placing(table: &mut Table, size: &str, members: &[u64], ours: &mut Lent, core: &mut Funnel) {
+    let mut slots = [vec![0; members.len()], vec![0; members.len()]];
+    let [mine, other] = &mut slots;
+    table.row_after(&format!("exported place_all, {size}"), members.len(), ours, core, Lent::clear, Funnel::clear, |ours| {
+        assert_eq!(ours.place_all(members, mine), 0);
+    }, |core| {
+        assert!(core.place_all(members, other));
+    });
+    assert_eq!(mine, other);
+    table.row(&format!("exported place_all, hits, {size}"), members.len(), || {
+        assert_eq!(ours.place_all(members, mine), 0);
+    }, || {
+        assert!(core.place_all(members, other));
+    });
+}
+
+/// Both tables are full.
+fn checking(table: &mut Table, size: &str, members: &[u64], ours: &mut Lent, core: &mut Funnel) {
+    let n = ours.flags.len();
+    let (mut marks, mut order) = (vec![0; n], vec![0; n]);
+    let (mut other_marks, mut other_order) = (vec![0; n], vec![0; n]);
+    table.row(&format!("exported check, {size}"), members.len(), || {
+        assert_eq!(ours.check(&mut marks, &mut order), 0);
+    }, || {
+        assert_eq!(core.check(&mut other_marks, &mut other_order), members.len() as u64);
+    });
+    assert_eq!((marks, order), (other_marks, other_order));
+}
+
+/// One call for each identity, on both sides with the test of the table.
+fn single(table: &mut Table, size: &str, members: &[u64], ours: &mut Lent, core: &mut Funnel) {
+    let some = &members[..members.len().min(200_000)];
+    table.row(&format!("exported search, {size}"), some.len(), || {
+        for &id in some {
+            assert_eq!(ours.search(id), 0);
+        }
+    }, || {
+        for &id in some {
+            black_box(core.search_all(&[id]));
+        }
+    });
+    table.row_after(&format!("exported insert, {size}"), some.len(), ours, core, Lent::clear, Funnel::clear, |ours| {
+        for &id in some {
+            assert_eq!(ours.insert(id), 0);
+        }
+    }, |core| {
+        for &id in some {
+            assert!(core.insert(id));
+        }
+    });
+}
+
+/// A search of an empty table reads one slot: nearly all of its time is the test of the state block. Beside it the plan test alone.
+fn state_test(table: &mut Table, n: u64, e: u32) {
+    const TIMES: usize = 100_000;
+    let mut ours = Lent::open(n, e);
+    let (plan, counts) = calls::funnel_plan(n, e).unwrap();
+    table.row(&format!("exported, test of the state block, n {n}, e {e}"), TIMES, || {
+        for _ in 0..TIMES {
+            black_box(ours.search(black_box(7)));
+        }
+    }, || {
+        for _ in 0..TIMES {
+            black_box(calls::is_funnel_plan(black_box(n), e, &plan, &counts));
+        }
+    });
+}

@@ -1,0 +1,299 @@
+/*
+ * gridder: sums samples in their cells, and makes a picture of the weighted means.
+ *
+ *     gridder [--from IMAGE SUMS] [--unchecked] [--to IMAGE SUMS] [--picture FILE] SAMPLES
+ *
+ * A cell's identity gets a slot of a funnel table, and its samples are summed at that slot. --from goes on with the table and the
+ * sums of another run; the table goes through the check first, and the run ends there where no order of insertions
+ * makes it. --unchecked leaves the check out, as was done before there was one. --to writes the table's image and its sums,
+ * --picture the field as a PGM file.
+ * Exit status: 0; 1 where the table was refused; 2 where an argument or a file is wrong. Nothing is written unless every sample was summed.
+ */
+#include "grid.h"
+
+#include <inttypes.h>
+#include <stdio.h>
+#include <stdlib.h>
+#include <string.h>
+
+/* Samples that are placed by one call. */
+#define BATCH 4096
+
+struct gridder {
+    uint64_t n;
+    uint8_t state[LANDOVIREPH_STATE_BYTES], answer[LANDOVIREPH_ANSWER_BYTES];
+    uint8_t *words, *flags;
+    double *sums, *weights; /* by slot */
+};
+
+struct options {
+    const char *from_image, *from_sums, *to_image, *to_sums, *picture, *samples;
+    int unchecked;
+};
+
+static void give_up(int status, const char *what, const char *about)
+{
+    fprintf(stderr, "gridder: %s%s%s\n", what, *about != 0 ? ": " : "", about);
+    exit(status);
+}
+
+static void *memory(size_t count, size_t size)
+{
+    void *zeroed = calloc(count != 0 ? count : 1, size);
+    if (zeroed == NULL)
+        give_up(2, "no memory", "");
+    return zeroed;
+}
+
+static FILE *opened(const char *path, const char *mode)
+{
+    FILE *file = fopen(path, mode);
+    if (file == NULL) {
+        perror(path);
+        exit(2);
+    }
+    return file;
+}
+
+static void closed(FILE *file, const char *path)
+{
+    if (ferror(file) || fclose(file) != 0)
+        give_up(2, "the file cannot be read or written", path);
+}
+
+/* ---- the table */
+
+/* The smallest table whose maximum leaves a tenth free. Not every size has a layout: the next one that has is taken. */
+static void open_table(struct gridder *g, uint64_t cells)
+{
+    uint64_t refused = LANDOVIREPH_LAYOUT;
+    for (g->n = cells + cells * 3 / 10; refused == LANDOVIREPH_LAYOUT; g->n++) {
+        g->words = memory(g->n, 8);
+        g->flags = memory(g->n, 1);
+        refused = landovireph_funnel_open(g->n, RESERVE_EXPONENT, SEED, WORD_CAP, g->state, sizeof g->state, g->words, 8 * g->n,
+                                          g->flags, g->n, g->answer, sizeof g->answer);
+        if (refused == 0)
+            break;
+        free(g->words);
+        free(g->flags);
+    }
+    if (refused != 0)
+        give_up(1, "no table could be opened", landovireph_refusal_name(refused));
+    g->sums = memory(g->n, sizeof *g->sums);
+    g->weights = memory(g->n, sizeof *g->weights);
+}
+
+static void close_table(struct gridder *g)
+{
+    free(g->words);
+    free(g->flags);
+    free(g->sums);
+    free(g->weights);
+}
+
+#define TABLE(g) (g)->state, sizeof (g)->state, (g)->words, 8 * (g)->n, (g)->flags, (g)->n
+#define ANSWER(g) (g)->answer, sizeof (g)->answer
+
+/* Ends the run unless some order of insertions makes the table that was handed over. */
+static void check_table(struct gridder *g)
+{
+    uint8_t *marks = memory(g->n, 1), *order = memory(g->n, 8);
+    uint64_t refused = landovireph_funnel_check(TABLE(g), marks, g->n, order, 8 * g->n, ANSWER(g));
+    uint64_t slot = landovireph_answer_slot(g->answer);
+    free(marks);
+    free(order);
+    if (refused == 0)
+        return;
+    fprintf(stderr, "gridder: the table that was handed over is refused: %s (%" PRIu64 ")\n", landovireph_refusal_name(refused),
+            refused);
+    if (refused == LANDOVIREPH_DISORDER)
+        fprintf(stderr, "gridder: %" PRIu64 " of %" PRIu64 " members can be placed; slot %" PRIu64 " is the first that cannot\n",
+                landovireph_answer_placed(g->answer), landovireph_state_count(g->state), slot);
+    fprintf(stderr, "gridder: no sample was summed\n");
+    exit(1);
+}
+
+/* ---- files that are handed over */
+
+static void load_image(struct gridder *g, const char *path)
+{
+    size_t room = (size_t)landovireph_image_bytes(g->n, 64), length;
+    uint8_t *image = memory(room + 1, 1);
+    FILE *file = opened(path, "rb");
+    uint64_t refused;
+    length = fread(image, 1, room + 1, file);
+    closed(file, path);
+    refused = landovireph_funnel_load(TABLE(g), image, length, ANSWER(g));
+    free(image);
+    if (refused != 0)
+        give_up(1, path, landovireph_refusal_name(refused));
+}
+
+static void write_image(struct gridder *g, const char *path)
+{
+    static const uint8_t label[] = { 'g', 'r', 'i', 'd', 'd', 'e', 'r' };
+    size_t room = (size_t)landovireph_image_bytes(landovireph_state_count(g->state), sizeof label);
+    uint8_t *image = memory(room, 1);
+    FILE *file;
+    uint64_t refused = landovireph_funnel_write(TABLE(g), label, sizeof label, image, room, ANSWER(g));
+    if (refused != 0)
+        give_up(1, "the table cannot be written", landovireph_refusal_name(refused));
+    file = opened(path, "wb");
+    fwrite(image, 1, (size_t)landovireph_get(g->answer, LANDOVIREPH_ANSWER_IMAGE_BYTES), file);
+    closed(file, path);
+    free(image);
+}
+
+static void load_sums(struct gridder *g, const char *path)
+{
+    FILE *file = opened(path, "rb");
+    if (fread(g->sums, sizeof *g->sums, g->n, file) != g->n || fread(g->weights, sizeof *g->weights, g->n, file) != g->n)
+        give_up(2, "the sums are not those of this table", path);
+    closed(file, path);
+}
+
+static void write_sums(const struct gridder *g, const char *path)
+{
+    FILE *file = opened(path, "wb");
+    fwrite(g->sums, sizeof *g->sums, g->n, file);
+    fwrite(g->weights, sizeof *g->weights, g->n, file);
+    closed(file, path);
+}
+
+/* ---- samples */
+
+static double get_double(const uint8_t *bytes)
+{
+    uint64_t bits = landovireph_get(bytes, 0);
+    double value;
+    memcpy(&value, &bits, sizeof value);
+    return value;
+}
+
+/* Finds or enters the cells of a batch by one call, and adds each sample at its slot. */
+static void grid_batch(struct gridder *g, const uint8_t *records, size_t count)
+{
+    static uint8_t identities[8 * BATCH], slots[8 * BATCH];
+    uint64_t refused;
+    size_t k;
+    for (k = 0; k < count; k++)
+        memcpy(identities + 8 * k, records + SAMPLE_BYTES * k, 8);
+    refused = landovireph_funnel_place_all(TABLE(g), identities, 8 * count, slots, 8 * count, ANSWER(g));
+    if (refused != 0)
+        give_up(1, "a cell has no slot", landovireph_refusal_name(refused));
+    for (k = 0; k < count; k++) {
+        uint64_t slot = landovireph_get(slots, 8 * k);
+        double weight = get_double(records + SAMPLE_BYTES * k + 16);
+        g->sums[slot] += weight * get_double(records + SAMPLE_BYTES * k + 8);
+        g->weights[slot] += weight;
+    }
+}
+
+static uint64_t grid_samples(struct gridder *g, const char *path)
+{
+    static uint8_t records[SAMPLE_BYTES * BATCH];
+    FILE *file = opened(path, "rb");
+    uint64_t all = 0;
+    size_t length;
+    while ((length = fread(records, 1, sizeof records, file)) != 0) {
+        if (length % SAMPLE_BYTES != 0)
+            give_up(2, "the file ends inside a sample", path);
+        grid_batch(g, records, length / SAMPLE_BYTES);
+        all += length / SAMPLE_BYTES;
+    }
+    closed(file, path);
+    return all;
+}
+
+/* ---- the picture */
+
+/* The weighted mean of a cell's samples, 0 where it has none. */
+static double mean_of(struct gridder *g, uint64_t identity)
+{
+    uint64_t slot;
+    if (landovireph_funnel_search(TABLE(g), identity, ANSWER(g)) != 0 || !landovireph_answer_found(g->answer))
+        return 0.0;
+    slot = landovireph_answer_slot(g->answer);
+    return g->weights[slot] > 0.0 ? g->sums[slot] / g->weights[slot] : 0.0;
+}
+
+static unsigned grey_of(double value)
+{
+    double share = (value - BLACK) / (WHITE - BLACK);
+    if (share < 0.0)
+        return 0;
+    return share > 1.0 ? 65535 : (unsigned)(share * 65535.0);
+}
+
+static void write_picture(struct gridder *g, const char *path)
+{
+    FILE *file = opened(path, "wb");
+    uint32_t x, y;
+    fprintf(file, "P5\n%d %d\n65535\n", FIELD, FIELD);
+    for (y = BORDER; y < BORDER + FIELD; y++)
+        for (x = BORDER; x < BORDER + FIELD; x++) {
+            unsigned grey = grey_of(mean_of(g, cell_identity(x, y)));
+            putc((int)(grey >> 8), file);
+            putc((int)(grey & 255), file);
+        }
+    closed(file, path);
+}
+
+/* ---- arguments */
+
+static void usage(void)
+{
+    give_up(2, "usage: gridder [--from IMAGE SUMS] [--unchecked] [--to IMAGE SUMS] [--picture FILE] SAMPLES", "");
+}
+
+static struct options read_options(int count, char **words)
+{
+    struct options options;
+    int i = 1;
+    memset(&options, 0, sizeof options);
+    for (; i < count && strncmp(words[i], "--", 2) == 0; i++) {
+        if (strcmp(words[i], "--unchecked") == 0) {
+            options.unchecked = 1;
+        } else if (strcmp(words[i], "--from") == 0 && i + 2 < count) {
+            options.from_image = words[++i];
+            options.from_sums = words[++i];
+        } else if (strcmp(words[i], "--to") == 0 && i + 2 < count) {
+            options.to_image = words[++i];
+            options.to_sums = words[++i];
+        } else if (strcmp(words[i], "--picture") == 0 && i + 1 < count) {
+            options.picture = words[++i];
+        } else {
+            usage();
+        }
+    }
+    if (i + 1 != count)
+        usage();
+    options.samples = words[i];
+    return options;
+}
+
+int main(int count, char **words)
+{
+    struct options options = read_options(count, words);
+    struct gridder g;
+    uint64_t samples, before;
+    open_table(&g, (uint64_t)GRID * GRID);
+    if (options.from_image != NULL) {
+        load_image(&g, options.from_image);
+        if (!options.unchecked)
+            check_table(&g);
+        load_sums(&g, options.from_sums);
+    }
+    before = landovireph_state_count(g.state);
+    samples = grid_samples(&g, options.samples);
+    if (options.to_image != NULL) {
+        write_image(&g, options.to_image);
+        write_sums(&g, options.to_sums);
+    }
+    if (options.picture != NULL)
+        write_picture(&g, options.picture);
+    printf("%" PRIu64 " samples; %" PRIu64 " cells entered, %" PRIu64 " in all, in a table of %" PRIu64 " slots\n", samples,
+           landovireph_state_count(g.state) - before, landovireph_state_count(g.state), g.n);
+    close_table(&g);
+    return 0;
+}

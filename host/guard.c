@@ -1,0 +1,720 @@
+/*
+ * guard: every buffer against a guard page, and whatever bytes come.
+ *
+ *     guard [CALLS [SEED]]      a million calls and seed 1 if none are given
+ *
+ * Each call's blocks and buffers are lent so that the byte behind the last one, or before the first one, cannot be touched; the
+ * two kinds alternate. The tables are honest ones at first; then blocks get other lengths and other bytes, states are made up,
+ * members moved, doubled and taken out, images damaged, buffers filled with noise. After each call the program tests what may
+ * have changed and what must not, and what the answer block holds (include/landovireph.h). It ends with the first call that did
+ * otherwise, or with how often each call answered each number.
+ * Exit status: 0, or 1 with a message; the same CALLS and SEED make the same calls.
+ */
+#include "landovireph.h"
+
+#include <inttypes.h>
+#include <signal.h>
+#include <stdbool.h>
+#include <stdio.h>
+#include <stdlib.h>
+#include <string.h>
+#include <sys/mman.h>
+#include <unistd.h>
+
+#define NUMBERS 27         /* results from 0 to 26 */
+#define ROOM (1u << 16)    /* bytes that an arena can lend; whole pages */
+#define POOL 48            /* tables */
+#define MOST_SLOTS 700     /* of one of them */
+#define MOST_IDENTITIES 40 /* of one place_all */
+
+enum call { OPEN, SEARCH, INSERT, PLACE_ALL, CHECK, LOAD, WRITE, CALLS };
+
+static const char *const names[CALLS] = { "open", "search", "insert", "place_all", "check", "load", "write" };
+
+static uint64_t tally[CALLS][NUMBERS];
+static uint64_t turn, seed_given;
+static enum call current;
+
+/* ---- how it ends early */
+
+static void fail(const char *what)
+{
+    fprintf(stderr, "guard: call %" PRIu64 " of seed %" PRIu64 ", %s: %s\n", turn, seed_given, names[current], what);
+    exit(1);
+}
+
+static void must(bool holds, const char *what)
+{
+    if (!holds)
+        fail(what);
+}
+
+/* A byte outside a buffer was touched. Only what a signal handler may is called. */
+static void touched(int number)
+{
+    static const char said[] = "guard: a byte outside a lent buffer was touched, or an address that is none; in the call landovireph_";
+    ssize_t written = write(STDERR_FILENO, said, sizeof said - 1);
+    written += write(STDERR_FILENO, names[current], strlen(names[current]));
+    written += write(STDERR_FILENO, "\n", 1);
+    (void)number;
+    _exit(written < 0 ? 2 : 1);
+}
+
+/* ---- random numbers: splitmix64 */
+
+static uint64_t random_state;
+
+static uint64_t draw(void)
+{
+    uint64_t x = random_state += 0x9E3779B97F4A7C15u;
+    x = (x ^ x >> 30) * 0xBF58476D1CE4E5B9u;
+    x = (x ^ x >> 27) * 0x94D049BB133111EBu;
+    return x ^ x >> 31;
+}
+
+static uint64_t below(uint64_t bound)
+{
+    return draw() % bound;
+}
+
+static bool one_in(uint64_t times)
+{
+    return below(times) == 0;
+}
+
+static void noise(uint8_t *bytes, size_t length)
+{
+    size_t i;
+    for (i = 0; i < length; i++)
+        bytes[i] = (uint8_t)draw();
+}
+
+/* ---- arenas: memory between two pages that cannot be touched */
+
+struct arena {
+    uint8_t *base; /* ROOM bytes, a guard page on each side */
+    uint8_t *at;   /* what is lent now */
+    size_t length;
+    uint8_t before[ROOM]; /* what it held when it was lent */
+};
+
+enum { STATE, WORDS, FLAGS, ANSWER, IDENTITIES, SLOTS, MARKS, ORDER, IMAGE, LABEL, ARENAS };
+
+static struct arena arenas[ARENAS];
+
+static void make_arena(struct arena *arena)
+{
+    size_t page = (size_t)sysconf(_SC_PAGESIZE);
+    uint8_t *all = mmap(NULL, ROOM + 2 * page, PROT_NONE, MAP_PRIVATE | MAP_ANONYMOUS, -1, 0);
+    if (all == MAP_FAILED || mprotect(all + page, ROOM, PROT_READ | PROT_WRITE) != 0) {
+        perror("guard: mmap");
+        exit(2);
+    }
+    arena->base = all + page;
+}
+
+/* Lends bytes at the arena's upper or lower end, in turn. */
+static void lend(int which, const uint8_t *bytes, size_t length)
+{
+    struct arena *arena = &arenas[which];
+    bool upper = (turn + (uint64_t)which) % 2 == 0;
+    must(length <= ROOM, "this program's arena is too small");
+    arena->at = arena->base + (upper ? ROOM - length : 0);
+    arena->length = length;
+    memcpy(arena->at, bytes, length);
+    memcpy(arena->before, bytes, length);
+}
+
+/* Gives what is lent another length: bytes are cut, or noise is added. */
+static void resize(int which, size_t length)
+{
+    static uint8_t bytes[ROOM];
+    size_t kept = arenas[which].length < length ? arenas[which].length : length;
+    memcpy(bytes, arenas[which].at, kept);
+    noise(bytes + kept, length - kept);
+    lend(which, bytes, length);
+}
+
+/* What is lent was changed on purpose: that is how it was before the call. */
+static void settle(int which)
+{
+    memcpy(arenas[which].before, arenas[which].at, arenas[which].length);
+}
+
+static bool same(int which)
+{
+    return memcmp(arenas[which].before, arenas[which].at, arenas[which].length) == 0;
+}
+
+static uint64_t word_now(int which, size_t k)
+{
+    return landovireph_get(arenas[which].at, 8 * k);
+}
+
+static uint64_t word_before(int which, size_t k)
+{
+    return landovireph_get(arenas[which].before, 8 * k);
+}
+
+/* ---- the tables that the calls start from */
+
+struct table {
+    uint64_t n, seed, cap;
+    uint32_t e;
+    uint8_t state[LANDOVIREPH_STATE_BYTES], words[8 * MOST_SLOTS], flags[MOST_SLOTS];
+};
+
+static struct table pool[POOL];
+static struct table *table; /* the one of this call */
+static bool damaged;        /* whether what is lent differs from it */
+
+static uint64_t member(void)
+{
+    return one_in(4) ? draw() : below(1000);
+}
+
+static uint64_t reopen(struct table *t)
+{
+    uint8_t answer[LANDOVIREPH_ANSWER_BYTES];
+    return landovireph_funnel_open(t->n, t->e, t->seed, t->cap, t->state, sizeof t->state, t->words, 8 * t->n, t->flags, t->n,
+                                   answer, sizeof answer);
+}
+
+static void fill(struct table *t, uint64_t members)
+{
+    uint8_t answer[LANDOVIREPH_ANSWER_BYTES];
+    for (; members != 0; members--)
+        landovireph_funnel_insert(t->state, sizeof t->state, t->words, 8 * t->n, t->flags, t->n, member(), answer, sizeof answer);
+}
+
+/* Tables of sizes that have a layout: empty ones, some that are half full, some that are full. */
+static void make_pool(void)
+{
+    int made = 0;
+    while (made < POOL) {
+        struct table *t = &pool[made];
+        t->n = 100 + below(MOST_SLOTS - 100 + 1);
+        t->e = 3 + (uint32_t)below(2);
+        t->seed = one_in(2) ? below(10) : draw();
+        t->cap = 1 + below(256);
+        if (reopen(t) != 0)
+            continue;
+        fill(t, made % 3 * t->n);
+        made++;
+    }
+}
+
+/* ---- what is done to the blocks and buffers before a call */
+
+/* The same length in seven of eight times, else one near it, or any. */
+static size_t about(size_t length)
+{
+    if (!one_in(8))
+        return length;
+    switch (below(4)) {
+    case 0:
+        return 0;
+    case 1:
+        return length - (length != 0);
+    case 2:
+        return length + 1 + below(8);
+    default:
+        return below(ROOM / 4);
+    }
+}
+
+static void damage_state(void)
+{
+    uint8_t *state = arenas[STATE].at;
+    size_t words = arenas[STATE].length / 8;
+    if (words == 0)
+        return;
+    switch (below(6)) {
+    case 0:
+        noise(state, arenas[STATE].length);
+        break;
+    case 1:
+        noise(state + 8 * below(words), 8);
+        break;
+    case 2: /* one of the numbers that open writes is one more or less */
+        landovireph_put(state, 8 * below(words < 40 ? words : 40), word_now(STATE, below(words < 40 ? words : 40)) + below(3) - 1);
+        break;
+    case 3:
+        state[8 * below(words)] ^= (uint8_t)(1u << below(8));
+        break;
+    case 4:
+        if (words > 5)
+            landovireph_put(state, LANDOVIREPH_STATE_COUNT, below(2 * table->n));
+        break;
+    default:
+        landovireph_put(state, LANDOVIREPH_STATE_KIND, below(4));
+    }
+    settle(STATE);
+}
+
+/* Members moved, doubled, taken out; flags that are no flags. */
+static void damage_slots(void)
+{
+    uint64_t from = below(table->n), to = below(table->n);
+    if (arenas[WORDS].length < 8 * table->n || arenas[FLAGS].length < table->n)
+        return;
+    switch (below(5)) {
+    case 0:
+        landovireph_put(arenas[WORDS].at, 8 * from, 0);
+        arenas[FLAGS].at[from] = 0;
+        break;
+    case 1:
+        landovireph_put(arenas[WORDS].at, 8 * to, word_now(WORDS, from));
+        arenas[FLAGS].at[to] = arenas[FLAGS].at[from];
+        break;
+    case 2:
+        arenas[FLAGS].at[from] = (uint8_t)draw();
+        break;
+    case 3:
+        noise(arenas[WORDS].at, arenas[WORDS].length);
+        memset(arenas[FLAGS].at, 1, arenas[FLAGS].length);
+        break;
+    default:
+        noise(arenas[WORDS].at, arenas[WORDS].length);
+        noise(arenas[FLAGS].at, arenas[FLAGS].length);
+    }
+    settle(WORDS);
+    settle(FLAGS);
+}
+
+static void lend_table(void)
+{
+    uint8_t answer[LANDOVIREPH_ANSWER_BYTES];
+    noise(answer, sizeof answer);
+    lend(STATE, table->state, sizeof table->state);
+    lend(WORDS, table->words, 8 * table->n);
+    lend(FLAGS, table->flags, table->n);
+    lend(ANSWER, answer, sizeof answer);
+    damaged = one_in(3);
+    if (!damaged)
+        return;
+    resize(STATE, about(arenas[STATE].length));
+    resize(WORDS, about(arenas[WORDS].length));
+    resize(FLAGS, about(arenas[FLAGS].length));
+    resize(ANSWER, about(arenas[ANSWER].length));
+    if (one_in(2))
+        damage_state();
+    if (one_in(2))
+        damage_slots();
+}
+
+static void lend_noise(int which, size_t length)
+{
+    static uint8_t bytes[ROOM];
+    noise(bytes, length);
+    lend(which, bytes, length);
+}
+
+/* ---- rules that every call keeps */
+
+/* Whether the state block is one that a call on a funnel table can take anything from. */
+static bool holds_funnel(void)
+{
+    return arenas[STATE].length == LANDOVIREPH_STATE_BYTES && word_before(STATE, 0) == LANDOVIREPH_KIND_FUNNEL &&
+           word_before(STATE, LANDOVIREPH_STATE_E / 8) < (uint64_t)1 << 32;
+}
+
+/* Every word of the answer block is 0, but for those whose bit is set. */
+static bool only(unsigned words)
+{
+    size_t k;
+    for (k = 0; k < LANDOVIREPH_ANSWER_BYTES / 8; k++)
+        if ((words >> k & 1) == 0 && word_now(ANSWER, k) != 0)
+            return false;
+    return true;
+}
+
+#define BIT(offset) (1u << (offset) / 8)
+#define PROBES BIT(LANDOVIREPH_ANSWER_PROBES)
+#define PLACE                                                                                                     \
+    (BIT(LANDOVIREPH_ANSWER_KIND) | BIT(LANDOVIREPH_ANSWER_LEVEL) | BIT(LANDOVIREPH_ANSWER_BUCKET) |               \
+     BIT(LANDOVIREPH_ANSWER_WITHIN) | BIT(LANDOVIREPH_ANSWER_SLOT))
+#define SLOT BIT(LANDOVIREPH_ANSWER_SLOT)
+#define RANGE_WORDS BIT(LANDOVIREPH_ANSWER_WORDS)
+#define FOUND BIT(LANDOVIREPH_ANSWER_FOUND)
+#define PLACED BIT(LANDOVIREPH_ANSWER_PLACED)
+#define BYTE BIT(LANDOVIREPH_ANSWER_BYTE)
+#define LABEL_AT (BIT(LANDOVIREPH_ANSWER_LABEL) | BIT(LANDOVIREPH_ANSWER_LABEL_BYTES))
+#define IMAGE_BYTES BIT(LANDOVIREPH_ANSWER_IMAGE_BYTES)
+
+/* What a call may answer: the numbers that it has, each with the words of the answer block that it may set. */
+struct may {
+    int number;
+    unsigned words;
+};
+
+static void keeps_answers(uint64_t result, const struct may *may, bool answer_stays)
+{
+    if (arenas[ANSWER].length != LANDOVIREPH_ANSWER_BYTES)
+        must(result != 0, "an answer block of another length was taken");
+    if (answer_stays || arenas[ANSWER].length != LANDOVIREPH_ANSWER_BYTES) {
+        must(same(ANSWER), "the answer block was to stay as it was");
+        must(result != 0, "no refusal");
+        return;
+    }
+    if (result >= 1 && result <= 7) {
+        must(only(0), "a refusal from 1 to 7 has nothing to say");
+        return;
+    }
+    while (may->number != -1 && (uint64_t)may->number != result)
+        may++;
+    must(may->number != -1, "the call does not have this number");
+    must(only(may->words), "a word of the answer block is set that is to be 0");
+}
+
+static void count(uint64_t result)
+{
+    must(result < NUMBERS, "no refusal has this number");
+    tally[current][result]++;
+}
+
+/* The rules of a call on a funnel table: a block that holds none is STATE, and says nothing. */
+static void keeps_rules(uint64_t result, const struct may *may)
+{
+    count(result);
+    if (!holds_funnel())
+        must(result == LANDOVIREPH_STATE, "a block that holds no funnel table was taken");
+    keeps_answers(result, may, !holds_funnel());
+}
+
+static void keeps_table(void)
+{
+    must(same(STATE), "the state block was changed");
+    must(same(WORDS), "words were changed");
+    must(same(FLAGS), "flags were changed");
+}
+
+/* The arena is as it was, apart from the bytes of some words. */
+static bool same_but_word(int which, size_t k)
+{
+    size_t at = 8 * k;
+    return memcmp(arenas[which].before, arenas[which].at, at) == 0 &&
+           memcmp(arenas[which].before + at + 8, arenas[which].at + at + 8, arenas[which].length - at - 8) == 0;
+}
+
+/* What a call left of an undamaged table is the pool's from now on. */
+static void keep_table(void)
+{
+    if (damaged)
+        return;
+    memcpy(table->state, arenas[STATE].at, sizeof table->state);
+    memcpy(table->words, arenas[WORDS].at, 8 * table->n);
+    memcpy(table->flags, arenas[FLAGS].at, table->n);
+}
+
+#define TABLE arenas[STATE].at, arenas[STATE].length, arenas[WORDS].at, arenas[WORDS].length, arenas[FLAGS].at, arenas[FLAGS].length
+#define LENT(which) arenas[which].at, arenas[which].length
+
+/* ---- the calls */
+
+static void try_open(void)
+{
+    static const struct may may[] = { { 0, 0 }, { -1, 0 } };
+    static const uint64_t odd[] = { 0, 1, 2, 143, (uint64_t)1 << 32, ((uint64_t)1 << 32) + 1, UINT64_MAX };
+    uint64_t n = one_in(6) ? odd[below(7)] : table->n, cap = one_in(6) ? below(300) : table->cap, result;
+    uint32_t e = one_in(6) ? (uint32_t)draw() >> below(32) : table->e;
+    bool other_state = arenas[STATE].length != LANDOVIREPH_STATE_BYTES;
+    result = landovireph_funnel_open(n, e, table->seed, cap, TABLE, LENT(ANSWER));
+    count(result);
+    keeps_answers(result, may, other_state && result == LANDOVIREPH_STATE);
+    if (result != 0) {
+        keeps_table();
+        return;
+    }
+    must(n == arenas[FLAGS].length && 8 * n == arenas[WORDS].length && !other_state, "a buffer of another length was taken");
+    must(word_now(STATE, 1) == n && word_now(STATE, LANDOVIREPH_STATE_COUNT / 8) == 0, "the state block is not that of a fresh table");
+    while (n-- != 0)
+        must(word_now(WORDS, n) == 0 && arenas[FLAGS].at[n] == 0, "a fresh table is not empty");
+}
+
+static void try_search(void)
+{
+    static const struct may may[] = { { 0, PROBES | PLACE | FOUND }, { LANDOVIREPH_RANGE, RANGE_WORDS },
+                                      { LANDOVIREPH_FULL, PROBES },  { -1, 0 } };
+    uint64_t identity = member(), slot;
+    uint64_t result = landovireph_funnel_search(TABLE, identity, LENT(ANSWER));
+    keeps_rules(result, may);
+    keeps_table();
+    if (result != 0)
+        return;
+    slot = landovireph_answer_slot(arenas[ANSWER].at);
+    must(slot < arenas[FLAGS].length, "the slot is none of the table");
+    if (landovireph_answer_found(arenas[ANSWER].at))
+        must(arenas[FLAGS].at[slot] != 0 && word_now(WORDS, slot) == identity, "the slot does not hold the identity");
+    else
+        must(arenas[FLAGS].at[slot] == 0, "the slot is not vacant");
+}
+
+static void try_insert(void)
+{
+    static const struct may may[] = { { 0, PROBES | PLACE },          { LANDOVIREPH_RANGE, RANGE_WORDS },
+                                      { LANDOVIREPH_DUPLICATE, PROBES | PLACE }, { LANDOVIREPH_EXHAUSTED, PROBES },
+                                      { LANDOVIREPH_FULL, PROBES },   { -1, 0 } };
+    uint64_t identity = member(), slot;
+    uint64_t result = landovireph_funnel_insert(TABLE, identity, LENT(ANSWER));
+    keeps_rules(result, may);
+    if (result != 0) {
+        keeps_table();
+        return;
+    }
+    slot = landovireph_answer_slot(arenas[ANSWER].at);
+    must(slot < arenas[FLAGS].length && arenas[FLAGS].before[slot] == 0, "the slot was not vacant");
+    must(word_now(WORDS, slot) == identity && same_but_word(WORDS, slot), "other words than the slot's were changed");
+    arenas[FLAGS].before[slot] = 1;
+    must(same(FLAGS), "other flags than the slot's were changed, or it is not 1");
+    must(word_now(STATE, 5) == word_before(STATE, 5) + 1 && same_but_word(STATE, 5), "the state block is not one member on");
+    keep_table();
+}
+
+/* As many new flags as the count went up; identities up to the placed one in their slots. */
+static void keeps_placed(uint64_t placed)
+{
+    uint64_t k, entered = 0;
+    for (k = 0; k < arenas[FLAGS].length; k++)
+        if (arenas[FLAGS].at[k] != arenas[FLAGS].before[k]) {
+            must(arenas[FLAGS].before[k] == 0 && arenas[FLAGS].at[k] == 1, "a flag was changed that was not vacant");
+            entered++;
+        } else {
+            must(word_now(WORDS, k) == word_before(WORDS, k), "a word was changed where nothing was entered");
+        }
+    must(word_now(STATE, 5) == word_before(STATE, 5) + entered && same_but_word(STATE, 5), "the count is not that of the entered");
+    for (k = 0; k < placed; k++) {
+        uint64_t slot = word_now(SLOTS, k);
+        must(slot < arenas[FLAGS].length && arenas[FLAGS].at[slot] != 0 && word_now(WORDS, slot) == word_now(IDENTITIES, k),
+             "an identity is not in its slot");
+    }
+    must(memcmp(arenas[SLOTS].at + 8 * placed, arenas[SLOTS].before + 8 * placed, arenas[SLOTS].length - 8 * placed) == 0,
+         "slots behind the placed were changed");
+}
+
+static void try_place_all(void)
+{
+    static const struct may may[] = { { 0, PLACED }, { LANDOVIREPH_RANGE, RANGE_WORDS | PLACED },
+                                      { LANDOVIREPH_EXHAUSTED, PROBES | PLACED }, { LANDOVIREPH_FULL, PROBES | PLACED }, { -1, 0 } };
+    uint8_t identities[8 * MOST_IDENTITIES] = { 0 };
+    uint64_t k, result, many = below(MOST_IDENTITIES + 1);
+    for (k = 0; k < many; k++)
+        landovireph_put(identities, 8 * k, member());
+    lend(IDENTITIES, identities, 8 * many);
+    lend_noise(SLOTS, 8 * (many + below(3)));
+    resize(IDENTITIES, about(8 * many));
+    resize(SLOTS, about(arenas[SLOTS].length));
+    result = landovireph_funnel_place_all(TABLE, LENT(IDENTITIES), LENT(SLOTS), LENT(ANSWER));
+    keeps_rules(result, may);
+    must(same(IDENTITIES), "identities were changed");
+    if (result != 0 && result != LANDOVIREPH_RANGE && result != LANDOVIREPH_EXHAUSTED && result != LANDOVIREPH_FULL) {
+        must(same(SLOTS), "a refusal wrote slots");
+        keeps_table();
+        return;
+    }
+    must(arenas[IDENTITIES].length % 8 == 0 && arenas[SLOTS].length % 8 == 0 && arenas[SLOTS].length >= arenas[IDENTITIES].length,
+         "lengths that are STATE");
+    if (result == 0)
+        must(landovireph_answer_placed(arenas[ANSWER].at) == arenas[IDENTITIES].length / 8, "placed is not all");
+    keeps_placed(landovireph_answer_placed(arenas[ANSWER].at));
+    keep_table();
+}
+
+/* Marks are 1 at the slots of the order, which are occupied, and 0 elsewhere; the tail of the order is as it was. */
+static void keeps_marks(uint64_t placed)
+{
+    uint64_t k, ones = 0;
+    for (k = 0; k < arenas[MARKS].length; k++) {
+        must(arenas[MARKS].at[k] <= 1 && arenas[MARKS].at[k] <= arenas[FLAGS].at[k], "a mark that is none, or of a vacant slot");
+        ones += arenas[MARKS].at[k];
+    }
+    must(ones == placed && placed <= arenas[ORDER].length / 8, "marks and placed differ");
+    for (k = 0; k < placed; k++)
+        must(word_now(ORDER, k) < arenas[MARKS].length && arenas[MARKS].at[word_now(ORDER, k)] == 1, "the order has a slot without a mark");
+    must(memcmp(arenas[ORDER].at + 8 * placed, arenas[ORDER].before + 8 * placed, arenas[ORDER].length - 8 * placed) == 0,
+         "the tail of the order was changed");
+}
+
+/* Where the check accepts, every member is marked; where it does not, the slot is the smallest that is not. */
+static void keeps_verdict(uint64_t result)
+{
+    uint64_t k = 0;
+    while (k < arenas[FLAGS].length && arenas[FLAGS].at[k] == arenas[MARKS].at[k])
+        k++;
+    if (result == 0)
+        must(k == arenas[FLAGS].length, "accepted with an unplaced member");
+    else
+        must(k == landovireph_answer_slot(arenas[ANSWER].at), "the slot is not the smallest unplaced one");
+}
+
+static void try_check(void)
+{
+    static const struct may may[] = { { 0, PLACED }, { LANDOVIREPH_DIRTY, SLOT }, { LANDOVIREPH_DISORDER, PLACED | SLOT }, { -1, 0 } };
+    uint64_t result;
+    lend_noise(MARKS, about(table->n));
+    lend_noise(ORDER, about(8 * table->n));
+    result = landovireph_funnel_check(TABLE, LENT(MARKS), LENT(ORDER), LENT(ANSWER));
+    keeps_rules(result, may);
+    keeps_table();
+    if (result == 0 || result == LANDOVIREPH_DISORDER) {
+        keeps_marks(landovireph_answer_placed(arenas[ANSWER].at));
+        keeps_verdict(result);
+    } else {
+        must(same(MARKS) && same(ORDER), "a refusal wrote marks or order");
+    }
+}
+
+/* The image of a table of the pool, into a buffer; its length. */
+static uint64_t image_of(const struct table *t, uint8_t *image, size_t room)
+{
+    uint8_t answer[LANDOVIREPH_ANSWER_BYTES], label[64];
+    size_t length = one_in(2) ? 0 : below(65);
+    noise(label, sizeof label);
+    if (landovireph_funnel_write(t->state, sizeof t->state, t->words, 8 * t->n, t->flags, t->n, label, length, image, room, answer,
+                                 sizeof answer) != 0)
+        return 0;
+    return landovireph_get(answer, LANDOVIREPH_ANSWER_IMAGE_BYTES);
+}
+
+/* A byte changed, a part cut out, the end cut off, or noise. */
+static size_t damage_image(uint8_t *image, size_t length)
+{
+    size_t at;
+    if (length == 0)
+        return 0;
+    at = below(length);
+    switch (below(5)) {
+    case 0:
+        image[at] = (uint8_t)draw();
+        return length;
+    case 1:
+        image[below(length < 40 ? length : 40)] ^= (uint8_t)(1u << below(8));
+        return length;
+    case 2:
+        return at;
+    case 3:
+        memmove(image + at / 2, image + at, length - at);
+        return length - (at - at / 2);
+    default:
+        noise(image + at, length - at);
+        return length;
+    }
+}
+
+/* A loaded table's image, with the label that was found, is the image that was loaded. */
+static void writes_again(void)
+{
+    static uint8_t again[ROOM];
+    uint8_t answer[LANDOVIREPH_ANSWER_BYTES];
+    uint64_t at = landovireph_get(arenas[ANSWER].at, LANDOVIREPH_ANSWER_LABEL),
+             length = landovireph_get(arenas[ANSWER].at, LANDOVIREPH_ANSWER_LABEL_BYTES);
+    must(at <= arenas[IMAGE].length && length <= arenas[IMAGE].length - at, "the label is outside the image");
+    must(landovireph_funnel_write(TABLE, arenas[IMAGE].at + at, length, again, sizeof again, answer, sizeof answer) == 0,
+         "a loaded table cannot be written");
+    must(landovireph_get(answer, LANDOVIREPH_ANSWER_IMAGE_BYTES) == arenas[IMAGE].length &&
+             memcmp(again, arenas[IMAGE].at, arenas[IMAGE].length) == 0,
+         "the image of a loaded table is another");
+}
+
+static void try_load(void)
+{
+    static const struct may may[] = { { 0, LABEL_AT }, { LANDOVIREPH_IMAGE, BYTE }, { LANDOVIREPH_FOREIGN, 0 }, { -1, 0 } };
+    static uint8_t image[ROOM];
+    size_t length = image_of(one_in(4) ? &pool[below(POOL)] : table, image, sizeof image);
+    uint64_t result;
+    if (one_in(2))
+        length = damage_image(image, length);
+    lend(IMAGE, image, length);
+    result = landovireph_funnel_load(TABLE, LENT(IMAGE), LENT(ANSWER));
+    keeps_rules(result, may);
+    must(same(IMAGE), "the image was changed");
+    if (result != 0) {
+        keeps_table();
+        return;
+    }
+    must(same_but_word(STATE, 5), "more than the count was changed in the state block");
+    writes_again();
+}
+
+static void try_write(void)
+{
+    static const struct may may[] = { { 0, IMAGE_BYTES }, { LANDOVIREPH_DIRTY, SLOT }, { LANDOVIREPH_ROOM, IMAGE_BYTES }, { -1, 0 } };
+    uint64_t members = 0, k, result, needed, label_length = one_in(3) ? below(80) : 0;
+    lend_noise(LABEL, label_length);
+    for (k = 0; k < arenas[FLAGS].length; k++)
+        members += arenas[FLAGS].at[k] != 0;
+    needed = landovireph_image_bytes(members, label_length);
+    lend_noise(IMAGE, needed <= ROOM / 2 ? about(needed) : ROOM / 2);
+    result = landovireph_funnel_write(TABLE, LENT(LABEL), LENT(IMAGE), LENT(ANSWER));
+    keeps_rules(result, may);
+    keeps_table();
+    must(same(LABEL), "the label was changed");
+    if (result == LANDOVIREPH_ROOM)
+        must(landovireph_get(arenas[ANSWER].at, LANDOVIREPH_ANSWER_IMAGE_BYTES) == needed && needed > arenas[IMAGE].length,
+             "ROOM without the length that is needed");
+    if (result != 0) {
+        must(same(IMAGE), "a refusal wrote the image");
+        return;
+    }
+    must(landovireph_get(arenas[ANSWER].at, LANDOVIREPH_ANSWER_IMAGE_BYTES) == needed && needed <= arenas[IMAGE].length,
+         "the image has another length");
+    must(memcmp(arenas[IMAGE].at + needed, arenas[IMAGE].before + needed, arenas[IMAGE].length - needed) == 0,
+         "bytes behind the image were changed");
+}
+
+static void (*const tries[CALLS])(void) = { try_open, try_search, try_insert, try_place_all, try_check, try_load, try_write };
+
+static void one_call(void)
+{
+    table = &pool[below(POOL)];
+    if (one_in(100) && reopen(table) != 0)
+        fail("a table of the pool cannot be opened again");
+    lend_table();
+    current = (enum call)below(CALLS);
+    tries[current]();
+}
+
+static void print_tally(void)
+{
+    int call, number;
+    for (call = 0; call < CALLS; call++) {
+        uint64_t all = 0;
+        for (number = 0; number < NUMBERS; number++)
+            all += tally[call][number];
+        printf("%-10s %10" PRIu64 " calls:", names[call], all);
+        for (number = 0; number < NUMBERS; number++)
+            if (tally[call][number] != 0)
+                printf(" %s %" PRIu64, landovireph_refusal_name((uint64_t)number), tally[call][number]);
+        printf("\n");
+    }
+}
+
+/* A plain decimal, else the end of the program. */
+static uint64_t argument(const char *text)
+{
+    char *end;
+    uint64_t value = strtoull(text, &end, 10);
+    if (*text < '0' || *text > '9' || *end != 0) {
+        fprintf(stderr, "usage: guard [CALLS [SEED]]\n");
+        exit(2);
+    }
+    return value;
+}
+
+int main(int words, char **word)
+{
+    uint64_t calls = words > 1 ? argument(word[1]) : 1000000;
+    int i;
+    seed_given = words > 2 ? argument(word[2]) : 1;
+    random_state = seed_given;
+    signal(SIGSEGV, touched);
+    signal(SIGBUS, touched);
+    for (i = 0; i < ARENAS; i++)
+        make_arena(&arenas[i]);
+    make_pool();
+    for (turn = 1; turn <= calls; turn++)
+        one_call();
+    print_tally();
+    printf("guard: %" PRIu64 " calls of seed %" PRIu64 ", every buffer against a guard page, no rule broken\n", calls, seed_given);
+    return 0;
+}
