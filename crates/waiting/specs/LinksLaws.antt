@@ -178,6 +178,15 @@ cleared-made b wiped out m v e l =
 
 -- ---- how many are no candidates
 
+pub idle-most : (b : List ℕ) (m k : ℕ) → idle b m k ≤ k
+unfolding idle
+idle-most b m zero = omega arith
+idle-most b m (suc k) = go (candidate b m k) (idle-most b m k)
+  where
+    go : (v : Bool) → idle b m k ≤ k → pick v 0 1 + idle b m k ≤ suc k
+    go true h = omega arith
+    go false h = omega arith
+
 module _ (before after : List ℕ) (m : ℕ) where
   idle-alike : (k : ℕ) → ((y : ℕ) → y < k → candidate after m y ≡ candidate before m y) → idle after m k ≡ idle before m k
   unfolding idle
