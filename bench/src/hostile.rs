@@ -15,7 +15,7 @@ pub fn rows(table: &mut Table) {
         for n in [1 << 16, 1 << 20, 1 << 22] {
             let n = (n..).find(|&n| calls::funnel_plan(n, e).is_some()).unwrap();
             let family = format!("hostile, n {n}, e {e}: ");
-            left.retain(|kind| table.may_want(&format!("{family}{}", kind.name())));
+            left.retain(|kind| table.may_want(&format!("{family}{}", name_of(*kind))));
             if left.is_empty() {
                 continue;
             }
@@ -26,7 +26,7 @@ pub fn rows(table: &mut Table) {
             let base = Base::new(n, e, SEED, maximum as usize, 1 << 40, identity).unwrap();
             left.retain(|&kind| {
                 let special = base.special(kind);
-                let name = format!("{family}{}, {} special", kind.name(), special.len());
+                let name = format!("{family}{}, {} special", name_of(kind), special.len());
                 let ratio = row(table, &name, &honest, maximum, &image(n, e, &base, &special), &told(&base, kind, &special));
                 if ratio > TOO_MUCH {
                     println!("(no larger image of that kind: more than {TOO_MUCH} times the honest table)");
@@ -34,6 +34,17 @@ pub fn rows(table: &mut Table) {
                 ratio <= TOO_MUCH
             });
         }
+    }
+}
+
+fn name_of(kind: Kind) -> &'static str {
+    match kind {
+        Kind::Half => "half",
+        Kind::Nearly => "nearly full",
+        Kind::Pairs => "pairs",
+        Kind::Chain => "chain",
+        Kind::Fan => "fan",
+        Kind::Stuck => "stuck",
     }
 }
 
