@@ -6,16 +6,18 @@ use crate::funnels::{CAP, SEED, identity};
 use crate::images_made::{Base, Kind, Members};
 use crate::measure::Table;
 
+const SIZES: [u64; 3] = [1 << 16, 1 << 20, 1 << 22];
+
 /// Where an image cost so many times the honest table, larger images of its kind are not tried: they would take minutes.
 const TOO_MUCH: f64 = 4.0;
 
 pub fn rows(table: &mut Table) {
     for e in [3, 6] {
         let mut left = Kind::ALL.to_vec();
-        for n in [1 << 16, 1 << 20, 1 << 22] {
+        for n in SIZES {
             let n = (n..).find(|&n| calls::funnel_plan(n, e).is_some()).unwrap();
             let family = format!("hostile, n {n}, e {e}: ");
-            left.retain(|kind| table.may_want(&format!("{family}{}", kind.name())));
+            left.retain(|kind| table.may_want(&format!("{family}{}", name_of(*kind))));
             if left.is_empty() {
                 continue;
             }
@@ -26,14 +28,25 @@ pub fn rows(table: &mut Table) {
             let base = Base::new(n, e, SEED, maximum as usize, 1 << 40, identity).unwrap();
             left.retain(|&kind| {
                 let special = base.special(kind);
-                let name = format!("{family}{}, {} special", kind.name(), special.len());
+                let name = format!("{family}{}, {} special", name_of(kind), special.len());
                 let ratio = row(table, &name, &honest, maximum, &image(n, e, &base, &special), &told(&base, kind, &special));
-                if ratio > TOO_MUCH {
+                if ratio > TOO_MUCH && n < SIZES[SIZES.len() - 1] {
                     println!("(no larger image of that kind: more than {TOO_MUCH} times the honest table)");
                 }
                 ratio <= TOO_MUCH
             });
         }
+    }
+}
+
+fn name_of(kind: Kind) -> &'static str {
+    match kind {
+        Kind::Half => "half",
+        Kind::Nearly => "nearly full",
+        Kind::Pairs => "pairs",
+        Kind::Chain => "chain",
+        Kind::Fan => "fan",
+        Kind::Stuck => "stuck",
     }
 }
 

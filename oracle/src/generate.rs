@@ -4,6 +4,7 @@
 mod check;
 mod elastic;
 mod funnel;
+mod hostile;
 mod image;
 mod layouts;
 mod numbers;
@@ -18,7 +19,7 @@ use crate::report::kinds;
 use crate::rules::Bounds;
 use numbers::Numbers;
 
-pub const GROUPS: [&str; 6] = ["layouts", "probes", "elastic", "funnel", "image", "check"];
+pub const GROUPS: [&str; 7] = ["layouts", "probes", "elastic", "funnel", "image", "check", "hostile"];
 
 /// Where the lines of a group go: all of them out, or a few of each section.
 enum Sink {
@@ -105,6 +106,7 @@ impl Group {
             "funnel" => funnel::lines(self),
             "image" => image::lines(self),
             "check" => check::lines(self),
+            "hostile" => hostile::lines(self),
             _ => unreachable!("the groups were looked up"),
         }
         self.section();

@@ -37,17 +37,6 @@ impl Kind {
         Self::Fan,
         Self::Stuck,
     ];
-
-    pub fn name(self) -> &'static str {
-        match self {
-            Self::Half => "half",
-            Self::Nearly => "nearly full",
-            Self::Pairs => "pairs",
-            Self::Chain => "chain",
-            Self::Fan => "fan",
-            Self::Stuck => "stuck",
-        }
-    }
 }
 
 /// The members of an image: slot and identity.
@@ -231,7 +220,7 @@ impl Making<'_> {
     fn some(&mut self, wanted: usize, place: impl Fn(&Self, u64) -> Option<usize>) {
         let most = self.members.len() + wanted;
         let mut idle = 0;
-        while self.members.len() < most && idle < 1_000_000 {
+        while self.members.len() < most && idle < 10_000 {
             let id = self.candidate();
             idle += 1;
             if let Some(at) = place(self, id) {
@@ -302,7 +291,8 @@ impl Making<'_> {
     /// The last slots of the primary part, each with a member that wants it first, and then members below that find it taken. There are
     /// as few of those slots as the search for a quarter of a primary part of such members allows.
     fn fan(&mut self) {
-        let (primary, mut left) = (self.base.primary, FAN_SEARCH);
+        let primary = self.base.primary;
+        let mut left = FAN_SEARCH.min(64 * (primary * primary) as u64);
         let wanted = primary / 4;
         let hubs = (wanted * primary).div_ceil(FAN_SEARCH as usize / 4).max(1);
         while self.members.len() < wanted + hubs && left > 0 {

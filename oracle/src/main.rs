@@ -16,6 +16,7 @@ mod check;
 mod elastic;
 mod funnel;
 mod generate;
+mod hostile;
 mod image;
 mod line;
 mod panics;

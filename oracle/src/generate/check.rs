@@ -9,7 +9,7 @@ use crate::exact::reference::{ScalarFunnelInsert, ScalarFunnelSearch};
 use crate::funnel::{Table, fresh};
 
 /// The members of an image by their slots.
-type Members = BTreeMap<u64, u64>;
+pub type Members = BTreeMap<u64, u64>;
 
 pub fn lines(group: &mut Group) {
     cases(group);
@@ -54,7 +54,7 @@ pub fn lines(group: &mut Group) {
     }
 }
 
-fn check(group: &mut Group, table: &Table, count: u64, members: &Members) {
+pub fn check(group: &mut Group, table: &Table, count: u64, members: &Members) {
     let mut shown: Vec<String> = members.iter().map(|(slot, id)| format!("{slot}={id}")).collect();
     if group.random.once_in(4) {
         group.random.shuffle(&mut shown);
@@ -179,7 +179,7 @@ fn filled(table: &Table, order: &[u64], past: bool) -> Members {
 }
 
 /// Some damage to an image, near a slot if one is named.
-fn damaged(group: &mut Group, table: &Table, members: &Members, from: u64) -> Members {
+pub fn damaged(group: &mut Group, table: &Table, members: &Members, from: u64) -> Members {
     let mut members = members.clone();
     for _ in 0..if group.random.once_in(3) {
         group.random.between(2, 4)
