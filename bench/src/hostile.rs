@@ -13,12 +13,13 @@ const TOO_MUCH: f64 = 4.0;
 
 pub fn rows(table: &mut Table) {
     for e in [3, 6] {
-        let mut left = Kind::ALL.to_vec();
+        let mut too_much = Vec::new();
         for n in SIZES {
             let n = (n..).find(|&n| calls::funnel_plan(n, e).is_some()).unwrap();
             let family = format!("hostile, n {n}, e {e}: ");
-            left.retain(|kind| table.may_want(&format!("{family}{}", name_of(*kind))));
-            if left.is_empty() {
+            let mut kinds = Kind::ALL.to_vec();
+            kinds.retain(|&kind| !too_much.contains(&kind) && table.may_want(&format!("{family}{}", name_of(kind))));
+            if kinds.is_empty() {
                 continue;
             }
             let maximum = calls::funnel_plan(n, e).unwrap().0[0];
@@ -26,15 +27,15 @@ pub fn rows(table: &mut Table) {
             let members: Vec<u64> = (0..maximum).map(identity).collect();
             assert!(honest.place_all(&members, &mut vec![0; members.len()]));
             let base = Base::new(n, e, SEED, maximum as usize, 1 << 40, identity).unwrap();
-            left.retain(|&kind| {
+            for kind in kinds {
                 let special = base.special(kind);
                 let name = format!("{family}{}, {} special", name_of(kind), special.len());
                 let ratio = row(table, &name, &honest, maximum, &image(n, e, &base, &special), &told(&base, kind, &special));
-                if ratio > TOO_MUCH && n < SIZES[SIZES.len() - 1] {
-                    println!("(no larger image of that kind: more than {TOO_MUCH} times the honest table)");
+                if ratio > TOO_MUCH {
+                    println!("(more than {TOO_MUCH} times the honest table: no larger image of that kind)");
+                    too_much.push(kind);
                 }
-                ratio <= TOO_MUCH
-            });
+            }
         }
     }
 }
