@@ -2,11 +2,12 @@
 use mathlib.Core.List.{List}
 use mathlib.Core.Path.{_≡_, ap, _∙_}
 use Prim.Native.Nat.{ℕ, _+_, _*_, _^_, _≤_, _<_}
+use native.Mathlib.Omega.{arith}
 use lib.ListN.{length, set}
 use lib.Seq.{sets, length-sets}
 use Rattle.words.specs.Bytes.{bytesOf}
 use Rattle.lent.specs.Lent.{wordsOf}
-use Rattle.lent.specs.LentLaws.{words-set}
+use Rattle.lent.specs.LentLaws.{words-set, length-whole}
 
 -- a slot that was stored
 module _ (order order' : List ℕ) (placed slot : ℕ) (stored : order' ≡ sets order (placed * 8) (bytesOf 8 slot)) where
@@ -15,3 +16,7 @@ module _ (order order' : List ℕ) (placed slot : ℕ) (stored : order' ≡ sets
 
   pub order-kept : (k : ℕ) → length order ≡ k → length order' ≡ k
   order-kept k e = ap length stored ∙ length-sets order (placed * 8) (bytesOf 8 slot) ∙ e
+
+-- no more placed than the order has bytes for
+pub order-room : (order : List ℕ) (n placed : ℕ) → length order ≡ n * 8 → placed ≤ length (wordsOf order) → placed * 8 ≤ length order
+order-room order n placed e h = let l = length-whole order n e in omega arith

@@ -14,8 +14,9 @@ use Rattle.funnel.specs.declared.table.Stop.the-variants as stop
 use Rattle.audit.specs.Greedy.{ready}
 use Rattle.audit.specs.GreedyLaws.{valid-marks}
 use Rattle.audit.specs.ReadyLaws.{vacantAt, ready-stopped, ready-there, ready-ends}
-use Rattle.audit.specs.Special.{ordinaryPath, goesOn, live}
+use Rattle.audit.specs.Special.{ordinaryPath, specialPath, goesOn, live}
 use Rattle.audit.specs.SpecialLaws.{live-found}
+use Rattle.audit.specs.Waits.{specialEnd}
 use Rattle.lent.specs.Valid.{ValidLent}
 
 -- a table stays valid with other flags of the same number
@@ -39,3 +40,8 @@ module _ (table : FunnelTable) (counts words flags marks : List ℕ) (placed s i
 
   pub lives : (r x : Search) → r ≡ searchOf words marks identity (ordinaryPath table counts identity) 0 → r ≡ x → goesOn x ≡ live table counts words flags marks s
   lives r x e q = live-found table counts words flags marks s o r x (rw (← is) e) q
+
+-- the search of a slot's identity along the special slots
+pub special-ends : (table : FunnelTable) (words marks : List ℕ) (start slot identity : ℕ) (r : Search) → identity ≡ getD words slot 0
+    → r ≡ searchOf words marks identity (specialPath table start identity) 0 → r ≡ specialEnd table words marks start slot
+special-ends table words marks start slot identity r is e = rw (← is) e
