@@ -36,4 +36,4 @@ mod ready;
 mod restore;
 pub mod slots;
 mod special;
-mod verdict;
+pub mod verdict;
