@@ -10,12 +10,12 @@ use Rattle.refusal.specs.declared.Name.the-variants as name
 use Rattle.words.specs.Pick.{pick}
 use Rattle.geometry.specs.declared.config.Gated.{Gated}
 use Rattle.geometry.specs.declared.config.Gated.the-variants.{Passed, Refused}
-use Rattle.elastic.specs.Insert.{Done, insertOf, insertReport}
-use Rattle.elastic.specs.Query.{queryOf, queryReport}
+use Rattle.elastic_insert.specs.Insert.{Done, insertOf, insertReport}
+use Rattle.elastic_query.specs.Query.{queryOf, queryReport}
 use Rattle.elastic.specs.State.{demand, gateOf, openGate, freshOf}
-use Rattle.elastic.specs.declared.insert.InsertAnswer.{InsertAnswer}
-use Rattle.elastic.specs.declared.insert.InsertAnswer.the-variants as inserting
-use Rattle.elastic.specs.declared.query.QueryAnswer.{QueryAnswer}
+use Rattle.elastic_insert.specs.declared.insert.InsertAnswer.{InsertAnswer}
+use Rattle.elastic_insert.specs.declared.insert.InsertAnswer.the-variants as inserting
+use Rattle.elastic_query.specs.declared.query.QueryAnswer.{QueryAnswer}
 use Rattle.elastic.specs.declared.state.Limits.{Limits}
 use Rattle.elastic.specs.declared.state.State.{State}
 use Rattle.lent.specs.Lent.{wordsOf, wordCount}

@@ -8,12 +8,12 @@ use lib.ListN.{length, set}
 use lib.Seq.{sets}
 use Rattle.words.specs.Bytes.{bytesOf}
 use Rattle.probe.specs.Word.{elasticKeyOf}
-use Rattle.elastic.specs.Insert.{Done, done}
-use Rattle.elastic.specs.Query.{positionsOf}
-use Rattle.elastic.specs.QueryLaws.{valid-queried}
+use Rattle.elastic_insert.specs.Insert.{Done, done}
+use Rattle.elastic_query.specs.Query.{positionsOf}
+use Rattle.elastic_query.specs.QueryLaws.{valid-queried}
 use Rattle.elastic.specs.Reading.{Read, readingOf}
-use Rattle.elastic.specs.declared.insert.InsertAnswer.{InsertAnswer}
-use Rattle.elastic.specs.declared.query.QueryAnswer.{QueryAnswer}
+use Rattle.elastic_insert.specs.declared.insert.InsertAnswer.{InsertAnswer}
+use Rattle.elastic_query.specs.declared.query.QueryAnswer.{QueryAnswer}
 use Rattle.elastic.specs.declared.state.State.{State}
 use Rattle.lent.specs.Lent.{wordsOf}
 use Rattle.lent.specs.LentLaws.{words-set}

@@ -3,7 +3,7 @@ use mathlib.Core.Path.{_≡_}
 use mathlib.Core.List.{List}
 use Prim.Native.Nat.{ℕ, _*_}
 use lib.ListN.{length}
-use Rattle.elastic.specs.QuerySteps.{Queried}
+use Rattle.elastic_query.specs.QuerySteps.{Queried}
 use Rattle.elastic.specs.State.{Valid}
 use Rattle.elastic.specs.declared.state.State.{State}
 use Rattle.lent.specs.Lent.{wordsOf}

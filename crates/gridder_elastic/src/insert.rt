@@ -2,19 +2,19 @@
 // base's own.
 ghost use mathlib.Core.Path.{_≡_};
 ghost use lib.ListN.{length};
-ghost use Rattle.elastic.specs.Insert.{done, placeBy, chooseOf};
+ghost use Rattle.elastic_insert.specs.Insert.{done, placeBy, chooseOf};
 ghost use Rattle.lent.specs.Lent.{wordsOf};
 ghost use Rattle.gridder_elastic.specs.Valid.{ValidLent};
 use crate::route::find_identity;
-use elastic::insert::Chosen;
-use elastic::insert::InsertAnswer;
-use elastic::insert::InsertRefusal;
-use elastic::insert::Inserted;
-use elastic::insert::insertion_of;
-use elastic::insert::position_of;
-use elastic::insert::steps;
 use elastic::route::Located;
 use elastic::state::State;
+use elastic_insert::insert::Chosen;
+use elastic_insert::insert::InsertAnswer;
+use elastic_insert::insert::InsertRefusal;
+use elastic_insert::insert::Inserted;
+use elastic_insert::insert::insertion_of;
+use elastic_insert::insert::position_of;
+use elastic_insert::insert::steps;
 use geometry::elastic::active_batch;
 use geometry::elastic::level_offset;
 use probe::word::elastic_key;

@@ -1,15 +1,15 @@
 // What the calls on elastic tables say, in the answer block of crate gridder (see lib.rt for the offsets).
 ghost use mathlib.Core.Path.{_≡_};
 ghost use lib.ListN.{length, replicate};
-ghost use Rattle.elastic.specs.Insert.{refusalReport, insertReport};
-ghost use Rattle.elastic.specs.Query.{queryReport};
+ghost use Rattle.elastic_insert.specs.Insert.{refusalReport, insertReport};
+ghost use Rattle.elastic_query.specs.Query.{queryReport};
 ghost use Rattle.gridder.specs.Answer.{stored, says, reply};
 ghost use Rattle.gridder_elastic.specs.Say.{fieldsAt, refusedAt, fiveFields, caseFields, insertedFields, insertFields, queryFields};
-use elastic::insert::Case;
-use elastic::insert::InsertAnswer;
-use elastic::insert::InsertRefusal;
-use elastic::insert::Insertion;
-use elastic::query::QueryAnswer;
+use elastic_insert::insert::Case;
+use elastic_insert::insert::InsertAnswer;
+use elastic_insert::insert::InsertRefusal;
+use elastic_insert::insert::Insertion;
+use elastic_query::query::QueryAnswer;
 use refusal::Name;
 use refusal::gate_name;
 use refusal::number;

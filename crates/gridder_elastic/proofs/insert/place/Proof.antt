@@ -6,7 +6,7 @@ use Prim.Native.Nat.{_+_, _*_, _≤_}
 use lib.ListN.{length}
 use Rattle.gridder_elastic.specs.LentLaws.{done-lent}
 use Rattle.elastic.specs.ReadingLaws.{probed-offset, probed-within}
-use Rattle.elastic.specs.InsertLaws.{choose-taken, valid-searching, searching-probed, place-refused, place-position, place-inserted}
+use Rattle.elastic_insert.specs.InsertLaws.{choose-taken, valid-searching, searching-probed, place-refused, place-position, place-inserted}
 use borrow.Author.Needs.{needs}
 use Rattle.gridder_elastic.proofs.insert.place.Statement.{statement}
 use Rattle.gridder_elastic.proofs.insert.place.Tie as tie

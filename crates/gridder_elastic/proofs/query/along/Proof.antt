@@ -7,7 +7,7 @@ use Rattle.elastic.specs.Reading.{readingOf, holdsAt}
 use Rattle.elastic.specs.ReadingLaws.{reading-read}
 use Rattle.lent.specs.Lent.{wordsOf}
 use Rattle.gridder_elastic.specs.LentLaws.{read-within}
-use Rattle.elastic.specs.QueryLaws.{Turn, turning, queried-probed, charged-most, going-start, going-refused, going-hit, going-miss, going-end}
+use Rattle.elastic_query.specs.QueryLaws.{Turn, turning, queried-probed, charged-most, going-start, going-refused, going-hit, going-miss, going-end}
 use Rattle.gridder_elastic.proofs.query.along.Statement.{statement}
 use Rattle.gridder_elastic.proofs.query.along.Tie as tie
 

@@ -5,7 +5,7 @@ use native.Mathlib.Omega.{arith}
 use borrow.Author.Needs.{needs}
 use Rattle.elastic.specs.Reading.{readingOf, holdsAt}
 use Rattle.lent.specs.Lent.{wordsOf}
-use Rattle.elastic.specs.QueryLaws.{Walked, walked-start, walked-end, walked-scanning, walked-hit, walked-refused, hit-fits, walked-on}
+use Rattle.elastic_query.specs.QueryLaws.{Walked, walked-start, walked-end, walked-scanning, walked-hit, walked-refused, hit-fits, walked-on}
 use Rattle.gridder_elastic.proofs.query.descend.Statement.{statement}
 use Rattle.gridder_elastic.proofs.query.descend.Tie as tie
 

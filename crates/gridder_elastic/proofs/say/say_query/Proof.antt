@@ -1,7 +1,7 @@
 -- `gridder_elastic::say::say_query` meets its contract. By the answer. Assumes nothing.
 use Rattle.gridder_elastic.specs.SayLaws.{stored-none, stored-one, stored-five, query-says, query-found}
 use Rattle.gridder_elastic.specs.Say.{fieldsAt, queryFields}
-use Rattle.elastic.specs.Query.{queryReport}
+use Rattle.elastic_query.specs.Query.{queryReport}
 use Rattle.refusal.specs.Table.{numberOf}
 use mathlib.Core.Path.{refl, ap, _∙_}
 use borrow.Author.Needs.{needs}
