@@ -37,7 +37,7 @@ $(OUT)/landovireph.pc: host/landovireph.pc.in include/landovireph.h Makefile
 	@mkdir -p $(OUT)
 	sed -e 's|@PREFIX@|$(PREFIX)|' -e 's|@VERSION@|$(VERSION)|' $< > $@
 
-$(OUT)/replay: host/replay.c host/line.c host/line.h host/table.c host/table.h
+$(OUT)/replay: host/replay.c host/elastic.c host/replay.h host/line.c host/line.h host/table.c host/table.h
 $(OUT)/examine: host/examine.c host/table.c host/table.h
 $(OUT)/guard: host/guard.c
 
