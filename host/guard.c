@@ -204,7 +204,7 @@ static void choose(struct table *t, bool elastic)
     t->n = elastic ? 2 + below(200) : 100 + below(MOST_SLOTS - 100 + 1);
     t->e = elastic ? 1 + (uint32_t)below(6) : 3 + (uint32_t)below(2);
     t->seed = one_in(2) ? below(10) : draw();
-    t->cap = 1 + below(elastic ? 8 : 256);
+    t->cap = one_in(3) ? 1 : 1 + below(elastic ? 8 : 256);
     t->c = 1 + below(8);
     t->search_cap = one_in(4) ? 1 + below(20) : 8192;
     t->position_cap = 1 + below(one_in(4) ? 100 : 100000);
@@ -221,6 +221,17 @@ static void make_pool(struct table *tables, bool elastic)
         fill(&tables[made], (uint64_t)(made % 3) * tables[made].n);
         made++;
     }
+}
+
+/* An identity to ask for: any, or one that is in the table, or the one whose first word in an elastic table is 0, which a draw
+ * rejects unless the length is a power of two. */
+static uint64_t asked(void)
+{
+    if (one_in(16))
+        return 0 - table->seed - 0x9E3779B97F4A7C15u;
+    if (one_in(2))
+        return landovireph_get(table->words, 8 * below(table->n));
+    return member();
 }
 
 /* ---- what is done to the blocks and buffers before a call */
@@ -242,13 +253,25 @@ static size_t about(size_t length)
     }
 }
 
+/* Members of an elastic table counted in another of its first levels; the sum stays. */
+static void shift_levels(void)
+{
+    size_t from = LANDOVIREPH_ELASTIC_COUNTS + 8 * below(3), to = LANDOVIREPH_ELASTIC_COUNTS + 8 * below(3);
+    uint64_t many;
+    if (!table->elastic || arenas[STATE].length != LANDOVIREPH_STATE_BYTES)
+        return;
+    many = below(landovireph_get(arenas[STATE].at, from) + 1);
+    landovireph_put(arenas[STATE].at, from, landovireph_get(arenas[STATE].at, from) - many);
+    landovireph_put(arenas[STATE].at, to, landovireph_get(arenas[STATE].at, to) + many);
+}
+
 static void damage_state(void)
 {
     uint8_t *state = arenas[STATE].at;
-    size_t words = arenas[STATE].length / 8;
+    size_t words = arenas[STATE].length / 8, at;
     if (words == 0)
         return;
-    switch (below(6)) {
+    switch (below(8)) {
     case 0:
         noise(state, arenas[STATE].length);
         break;
@@ -256,7 +279,8 @@ static void damage_state(void)
         noise(state + 8 * below(words), 8);
         break;
     case 2: /* one of the numbers that open writes is one more or less */
-        landovireph_put(state, 8 * below(words < 40 ? words : 40), word_now(STATE, below(words < 40 ? words : 40)) + below(3) - 1);
+        at = below(words < 40 ? words : 40);
+        landovireph_put(state, 8 * at, word_now(STATE, at) + 2 * below(2) - 1);
         break;
     case 3:
         state[8 * below(words)] ^= (uint8_t)(1u << below(8));
@@ -265,8 +289,15 @@ static void damage_state(void)
         if (words > 5)
             landovireph_put(state, LANDOVIREPH_STATE_COUNT, below(2 * table->n));
         break;
-    default:
+    case 5:
         landovireph_put(state, LANDOVIREPH_STATE_KIND, below(4));
+        break;
+    case 6: /* n, e, seed or word cap is a small number */
+        if (words > 4)
+            landovireph_put(state, 8 * (1 + below(4)), below(4));
+        break;
+    default:
+        shift_levels();
     }
     settle(STATE);
 }
@@ -436,7 +467,7 @@ static void try_search(void)
 {
     static const struct may may[] = { { 0, PROBES | PLACE | FOUND }, { LANDOVIREPH_RANGE, RANGE_WORDS },
                                       { LANDOVIREPH_FULL, PROBES },  { -1, 0 } };
-    uint64_t identity = member(), slot;
+    uint64_t identity = asked(), slot;
     uint64_t result = landovireph_funnel_search(TABLE, identity, LENT(ANSWER));
     keeps_rules(result, may);
     keeps_table();
@@ -464,7 +495,7 @@ static void try_insert(void)
     static const struct may may[] = { { 0, PROBES | PLACE },          { LANDOVIREPH_RANGE, RANGE_WORDS },
                                       { LANDOVIREPH_DUPLICATE, PROBES | PLACE }, { LANDOVIREPH_EXHAUSTED, PROBES },
                                       { LANDOVIREPH_FULL, PROBES },   { -1, 0 } };
-    uint64_t identity = member(), slot;
+    uint64_t identity = one_in(4) ? asked() : member(), slot;
     uint64_t result = landovireph_funnel_insert(TABLE, identity, LENT(ANSWER));
     keeps_rules(result, may);
     if (result != 0) {
@@ -720,7 +751,7 @@ static void try_elastic_insert(void)
     static const struct may may[] = { { 0, ELASTIC_INSERTED },       { LANDOVIREPH_DUPLICATE, SLOT }, { LANDOVIREPH_EXHAUSTED, 0 },
                                       { LANDOVIREPH_SCHEDULE, 0 },   { LANDOVIREPH_RANGE, RANGE_WORDS }, { LANDOVIREPH_SEARCH, 0 },
                                       { LANDOVIREPH_POSITION, 0 },   { -1, 0 } };
-    uint64_t identity = member(), slot, level;
+    uint64_t identity = one_in(4) ? asked() : member(), slot, level;
     uint64_t result = landovireph_elastic_insert(TABLE, identity, LENT(ANSWER));
     keeps_rules(result, may);
     if (result != 0) {
@@ -741,7 +772,7 @@ static void try_elastic_query(void)
     static const struct may may[] = { { 0, SLOT | RANGE_WORDS | BIT(LANDOVIREPH_ANSWER_POSITION) | BIT(LANDOVIREPH_ANSWER_MAPPED) |
                                             BIT(LANDOVIREPH_ANSWER_GAP) },
                                       { LANDOVIREPH_RANGE, RANGE_WORDS }, { LANDOVIREPH_ABSENT, 0 }, { -1, 0 } };
-    uint64_t identity = member(), slot;
+    uint64_t identity = asked(), slot;
     uint64_t result = landovireph_elastic_query(TABLE, identity, LENT(ANSWER));
     keeps_rules(result, may);
     keeps_table();
