@@ -4,9 +4,13 @@ pub mod FirstLaws
 pub mod Going
 pub mod Greedy
 pub mod GreedyLaws
+pub mod Marked
+pub mod MarkedLaws
 pub mod OrdinaryLaws
 pub mod ReadyLaws
 pub mod Special
 pub mod SpecialLaws
 pub mod VerdictLaws
 pub mod Verdicts
+pub mod Waits
+pub mod WaitsLaws

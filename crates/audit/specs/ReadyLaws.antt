@@ -1,7 +1,7 @@
 -- Laws of readiness: what it is by the search, and by its tests. Assumes nothing.
 use mathlib.Core.Bool.{Bool, true, false}
 use mathlib.Core.List.{List}
-use mathlib.Core.Path.{_≡_, refl, ap, sym, _∙_}
+use mathlib.Core.Path.{_≡_, refl, ap, sym, subst, _∙_}
 use Prim.Native.Nat.{ℕ, _≤_, _<_}
 use native.Mathlib.Omega.{arith}
 use lib.ListN.{getD}
@@ -12,8 +12,11 @@ use Rattle.words.specs.declared.place.Place.{Place}
 use Rattle.funnel.specs.declared.table.FunnelTable.{FunnelTable}
 use Rattle.funnel.specs.declared.table.Search.{Search}
 use Rattle.funnel.specs.declared.table.Search.the-variants as search
+use Rattle.funnel.specs.declared.table.Stop.{Stop}
+use Rattle.funnel.specs.declared.table.Stop.the-variants as stop
 use Rattle.funnel.specs.Path.{slotOf}
 use Rattle.funnel.specs.Search.{findOf}
+use Rattle.funnel.specs.Stop.{HitAt, VacantAt, StopsAt}
 use Rattle.funnel.specs.InsertLaws.{find-count}
 use Rattle.funnel.specs.Insert.{withCount, insertBy, insertOf}
 use Rattle.audit.specs.Greedy.{unplaced, insertedAt, intoPlaced, ready}
@@ -53,6 +56,10 @@ vacantAt s (search.Hit probes place) = false
 vacantAt s (search.Vacant probes place) = eqb (slotOf place) s
 vacantAt s (search.Full probes) = false
 vacantAt s (search.Range refusal) = false
+
+-- as the code finds it
+pub ends-found : (s : ℕ) (r x y : Search) → r ≡ y → r ≡ x → vacantAt s x ≡ vacantAt s y
+ends-found s r x y e q = ap (vacantAt s) (sym q ∙ e)
 
 module _ (table : FunnelTable) (counts words flags marks : List ℕ) (placed s : ℕ) where
   -- below the maximum it is the search that decides
@@ -102,10 +109,26 @@ module _ (table : FunnelTable) (counts words flags marks : List ℕ) (placed s :
   unfolding ready
   ready-by h o m r e = rw (unplaced-yes flags marks s o m) (into-search h r e)
 
-  -- as the code finds it
-  pub ready-found : placed < table .plan .maximum → (getD flags s 0 ≡ 0 → ⊥) → getD marks s 0 ≡ 0 → (r x : Search)
-      → r ≡ findOf table counts words marks (getD words s 0) → r ≡ x → vacantAt s x ≡ ready table counts words flags marks placed s
-  ready-found h o m r x e q = sym (ready-by h o m x (sym e ∙ q))
+  module _ (h : placed < table .plan .maximum) (o : getD flags s 0 ≡ 0 → ⊥) (m : getD marks s 0 ≡ 0) where
+    abbrev found : Search
+    found = findOf table counts words marks (getD words s 0)
+
+    -- as a walk over the levels finds it
+    pub ready-stopped : (r : Stop) (at : ℕ) → StopsAt r found (Unit {0}) → r ≡ stop.Vacant at → eqb at s ≡ ready table counts words flags marks placed s
+    unfolding StopsAt
+    ready-stopped r at e q =
+        let v : VacantAt at found = subst (λ (x : Stop). StopsAt x found (Unit {0})) q e in
+        ap (λ (x : ℕ). eqb x s) (v .there) ∙ sym (ready-by h o m _ (v .is))
+
+    pub ready-there : (r : Stop) (at : ℕ) → StopsAt r found (Unit {0}) → r ≡ stop.Hit at → false ≡ ready table counts words flags marks placed s
+    unfolding StopsAt
+    ready-there r at e q =
+        let v : HitAt at found = subst (λ (x : Stop). StopsAt x found (Unit {0})) q e in
+        sym (ready-by h o m _ (v .is))
+
+    -- as the whole search tells it
+    pub ready-ends : (b : Bool) → b ≡ vacantAt s found → b ≡ ready table counts words flags marks placed s
+    ready-ends b e = e ∙ sym (ready-by h o m found refl)
 
 -- what a ready slot is
 pub record Ready (table : FunnelTable) (counts words flags marks : List ℕ) (placed s : ℕ) : Type 0 where

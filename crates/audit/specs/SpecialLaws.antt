@@ -2,11 +2,12 @@
 use mathlib.Core.Bool.{Bool, true, false}
 use mathlib.Core.List.{List, [], _∷_}
 use mathlib.Core.Path.{_≡_, refl, ap, sym, _∙_}
-use Prim.Native.Nat.{ℕ, _+_, _*_, _-_, _≤_, _<_}
+use Prim.Native.Nat.{ℕ, zero, suc, _+_, _*_, _-_, _≤_, _<_}
 use native.Mathlib.Omega.{arith}
-use lib.ListN.{length, getD}
+use lib.ListN.{length, getD, set}
+use lib.Seq.{getD-set-other}
 use lib.Dec.{eqb, leb}
-use borrow.Author.Tests.{eq-eqb, ne-eqb, eqb-true, eqb-false, le-leb, lt-leb, leb-true, leb-false}
+use borrow.Author.Tests.{eq-eqb, ne-eqb, eqb-true, eqb-false, leb-true, leb-false}
 use Rattle.words.specs.Pick.{pick}
 use Rattle.words.specs.declared.place.Place.{Place}
 use Rattle.geometry.specs.Funnel.{IsPlan}
@@ -20,7 +21,7 @@ use Rattle.funnel.specs.Search.{look, walkOf, searchOf, findOf}
 use Rattle.funnel.specs.SearchLaws.{resume, search-join, search-full, walk-vacant, every-reached}
 use Rattle.funnel.specs.ReadingLaws.{walk-agrees}
 use Rattle.funnel.specs.FindLaws.{find-levels, primary-room-of, fallback-room-of}
-use Rattle.funnel.specs.PlanLaws.{primary-start}
+use Rattle.funnel.specs.PlanLaws.{primary-start, primary-room}
 use Rattle.funnel.specs.Valid.{Valid, SpecialRoom}
 use Rattle.funnel.specs.Every.{Every, Between}
 use Rattle.funnel.specs.EveryLaws.{every-map, rising-between}
@@ -45,13 +46,14 @@ module _ (table : FunnelTable) {counts : List ℕ} (is : IsPlan (table .n) (tabl
       every-map (Between _ (primaryStart (table .plan) counts)) _ (λ q b. b .to) _
       (rising-between _ _ _ (levels-rising is (table .seed) (table .«word_cap») identity 0 (table .plan .alpha) (omega arith)))
 
-  -- and every special one is not
-  special-above : (identity : ℕ) → Every (λ q. primaryStart (table .plan) counts ≤ slotOf q) (specialPath table (primaryStart (table .plan) counts) identity .places)
-  special-above identity =
-      join-every (λ q. primaryStart (table .plan) counts ≤ slotOf q) _ _
-      (every-map (Between (primaryStart (table .plan) counts) (fallbackStart (table .plan) counts)) _ (λ q b. b .from) _
+  -- and every special one is in it
+  special-between : (identity : ℕ) → Every (Between (primaryStart (table .plan) counts) (table .n)) (specialPath table (primaryStart (table .plan) counts) identity .places)
+  special-between identity =
+      let r = primary-room is in
+      join-every (Between (primaryStart (table .plan) counts) (table .n)) _ _
+      (every-map (Between (primaryStart (table .plan) counts) (fallbackStart (table .plan) counts)) _ (λ q b. record { from = b .from; to = omega (arith, b .to) }) _
       (primary-between is (table .seed) (table .«word_cap») identity 0 (table .plan .«loglog_ceiling»)))
-      (every-map (Between (fallbackStart (table .plan) counts) (table .n)) _ (λ q b. omega (arith, b .from)) _
+      (every-map (Between (fallbackStart (table .plan) counts) (table .n)) _ (λ q b. record { from = omega (arith, b .from); to = b .to }) _
       (fallback-between is (table .seed) (table .«word_cap») identity))
 
   module _ (words flags marks others : List ℕ) where
@@ -64,14 +66,19 @@ module _ (table : FunnelTable) {counts : List ℕ} (is : IsPlan (table .n) (tabl
         (search-alike words (getD words s 0) marks others (ordinaryPath table counts (getD words s 0)) 0
         (every-map _ _ (λ q l. alike (slotOf q) l) _ (ordinary-below (getD words s 0))))
 
+  module _ (words marks : List ℕ) (start identity : ℕ) (at : start ≡ primaryStart (table .plan) counts) where
     -- and past them the special marks
-    pub past-alike : (start : ℕ) → start ≡ primaryStart (table .plan) counts → ((i : ℕ) → start ≤ i → getD marks i 0 ≡ getD others i 0) → (placed s : ℕ) → start ≤ s
-        → readyPast table words marks start placed s ≡ readyPast table words others start placed s
-    unfolding readyPast
-    past-alike start e alike placed s l =
-        rw (alike s l) (ap (λ (r : Search). pick (eqb (getD others s 0) 0) (pick (leb (table .plan .maximum) placed) false (vacantAt s r)) false)
-        (search-alike words (getD words s 0) marks others (specialPath table start (getD words s 0)) 0
-        (rw e (every-map _ _ (λ q b. alike (slotOf q) (omega arith)) _ (special-above (getD words s 0))))))
+    pub special-alike : (others : List ℕ) → ((i : ℕ) → start ≤ i → getD marks i 0 ≡ getD others i 0)
+        → searchOf words marks identity (specialPath table start identity) 0 ≡ searchOf words others identity (specialPath table start identity) 0
+    special-alike others alike =
+        search-alike words identity marks others (specialPath table start identity) 0
+        (rw at (every-map _ _ (λ q b. alike (slotOf q) (omega (arith, b .from))) _ (special-between identity)))
+
+    -- a vacancy that such a search ends at is special
+    pub special-vacant : (k : ℕ) (p : Place) → searchOf words marks identity (specialPath table start identity) 0 ≡ search.Vacant k p → Between start (table .n) p
+    unfolding searchOf
+    special-vacant k p e =
+        every-reached (Between start (table .n)) (walk-vacant words marks identity _ _ 0 k p e .0) (rw at (special-between identity))
 
 -- ---- where a walk ends does not depend on the readings made before
 
@@ -87,6 +94,36 @@ module _ (words flags : List ℕ) (identity s : ℕ) where
       go true y ih = refl
       go false true ih = refl
       go false false ih = ih
+
+-- ---- a slot marked changes no walk that does not end there
+
+set-marked : (marks : List ℕ) (v i : ℕ) → (getD marks i 0 ≡ 0 → ⊥) → getD (set marks v 1) i 0 ≡ 0 → ⊥
+set-marked [] v i h e = h e
+set-marked (a ∷ marks) zero zero h e = omega arith
+set-marked (a ∷ marks) zero (suc i) h e = h e
+set-marked (a ∷ marks) (suc v) zero h e = h e
+set-marked (a ∷ marks) (suc v) (suc i) h e = set-marked marks v i h e
+
+module _ (words marks : List ℕ) (identity v : ℕ) where
+  walk-marked : (places : List Place) (e : Ending) (k : ℕ) → vacantAt v (walkOf words marks identity places e k) ≡ false
+      → walkOf words (set marks v 1) identity places e k ≡ walkOf words marks identity places e k
+  unfolding walkOf
+  walk-marked [] e k h = refl
+  walk-marked (p ∷ places) e k h =
+      go (eqb (getD marks (slotOf p) 0) 0) refl (eqb (getD words (slotOf p) 0) identity) h (walk-marked places e (k + 1))
+    where
+      go : (x : Bool) → eqb (getD marks (slotOf p) 0) 0 ≡ x → (y : Bool) → vacantAt v (look x y (k + 1) p (walkOf words marks identity places e (k + 1))) ≡ false
+          → (vacantAt v (walkOf words marks identity places e (k + 1)) ≡ false → walkOf words (set marks v 1) identity places e (k + 1) ≡ walkOf words marks identity places e (k + 1))
+          → look (eqb (getD (set marks v 1) (slotOf p) 0) 0) y (k + 1) p (walkOf words (set marks v 1) identity places e (k + 1))
+          ≡ look x y (k + 1) p (walkOf words marks identity places e (k + 1))
+      go true q y h ih = rw (getD-set-other marks v (slotOf p) 1 0 (eqb-false _ _ h), q)
+      go false q true h ih = rw (ne-eqb _ _ (set-marked marks v (slotOf p) (eqb-false _ _ q)))
+      go false q false h ih = rw (ne-eqb _ _ (set-marked marks v (slotOf p) (eqb-false _ _ q))) (ih h)
+
+pub search-marked : (words marks : List ℕ) (identity v : ℕ) (p : Path) (k : ℕ) → vacantAt v (searchOf words marks identity p k) ≡ false
+    → searchOf words (set marks v 1) identity p k ≡ searchOf words marks identity p k
+unfolding searchOf
+search-marked words marks identity v p k h = walk-marked words marks identity v (p .places) (p .ending) k h
 
 -- ---- readiness by the two parts
 
@@ -145,24 +182,6 @@ module _ (table : FunnelTable) (counts words flags marks : List ℕ) (s : ℕ) w
       → goesOn x ≡ live table counts words flags marks s
   unfolding live
   live-found h r x e q = rw (ne-eqb _ _ h, ← e, q)
-
-module _ (table : FunnelTable) (words marks : List ℕ) (start placed s : ℕ) where
-  pub past-marked : (getD marks s 0 ≡ 0 → ⊥) → false ≡ readyPast table words marks start placed s
-  unfolding readyPast
-  past-marked h = rw (ne-eqb _ _ h)
-
-  pub past-exhausted : table .plan .maximum ≤ placed → false ≡ readyPast table words marks start placed s
-  unfolding readyPast
-  past-exhausted h = rw (le-leb _ _ h) (go (eqb (getD marks s 0) 0))
-    where
-      go : (x : Bool) → false ≡ pick x false false
-      go true = refl
-      go false = refl
-
-  pub past-found : placed < table .plan .maximum → getD marks s 0 ≡ 0 → (r x : Search)
-      → r ≡ searchOf words marks (getD words s 0) (specialPath table start (getD words s 0)) 0 → r ≡ x → vacantAt s x ≡ readyPast table words marks start placed s
-  unfolding readyPast
-  past-found h m r x e q = rw (eq-eqb _ _ m, lt-leb _ _ h, ← e, q)
 
 -- ---- the two special stages put together
 

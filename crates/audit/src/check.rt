@@ -47,7 +47,7 @@ pub fn check(
 }
 
 // The tests 1 to 7, with the lengths of the two lent buffers.
-fn check_gate(
+pub fn check_gate(
     table: FunnelTable,
     counts: &[u64; 118],
     words: u64,

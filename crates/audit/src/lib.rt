@@ -28,6 +28,7 @@
 pub mod check;
 mod pass;
 mod ready;
+mod restore;
 pub mod slots;
 mod special;
-mod verdict;
+pub mod verdict;

@@ -5,14 +5,15 @@ ghost use Prim.Native.Nat.{_-_, _≤_};
 ghost use lib.ListN.{length, replicate};
 ghost use Rattle.audit.specs.Greedy.{taken, greedyOf};
 ghost use Rattle.audit.specs.Going.{Going};
+ghost use Rattle.audit.specs.Marked.{Listed};
 ghost use Rattle.audit.specs.Verdicts.{Early};
 ghost use Rattle.funnel.specs.Path.{primaryStart};
 ghost use Rattle.funnel.specs.Valid.{Valid};
 use crate::ready::is_ready;
+use crate::restore::restore;
 use crate::special::take_live;
 use crate::verdict::judge;
-use crate::verdict::stow;
-use crate::verdict::unstow;
+use crate::verdict::offer;
 use funnel::table::FunnelTable;
 use words::clear::clear_bytes;
 
@@ -62,7 +63,8 @@ fn take_ordinary(
 }
 
 // Takes what can be taken of the special part, which starts at `start`: how many are placed then. The ordinary part of each path is
-// read once, for the verdicts.
+// read once, for the verdicts; from there on the ordinary marks are room for the turns, and in the end all marks are made again from
+// the order.
 fn take_special(
     table: FunnelTable,
     counts: &[u64; 118],
@@ -73,12 +75,12 @@ fn take_special(
     start: u64,
     before: u64,
 ) -> u64
-    requires { ⌜ Valid table (now counts) (now words) (now marks) × (length (now flags) ≡ table .n) × (start ≡ primaryStart (table .plan) (now counts)) × (start ≤ table .n) × Early start (now marks) × Going (greedyOf table (now counts) (now words) (now flags) (table .n) (table .n - before) (now marks) (now order) before) table (now counts) (now words) (now flags) (now marks) (now order) before start ⌝ }
+    requires { ⌜ Valid table (now counts) (now words) (now marks) × (length (now flags) ≡ table .n) × (start ≡ primaryStart (table .plan) (now counts)) × (start ≤ table .n) × Early start (now marks) × Going (greedyOf table (now counts) (now words) (now flags) (table .n) (table .n - before) (now marks) (now order) before) table (now counts) (now words) (now flags) (now marks) (now order) before start × Listed (table .n) (greedyOf table (now counts) (now words) (now flags) (table .n) (table .n - before) (now marks) (now order) before) ⌝ }
     ensures { λ r. ⌜ taken (now (marks .exit)) (now (order .exit)) r ≡ greedyOf table (now (counts .entry)) (now (words .entry)) (now (flags .entry)) (table .n) (table .n - before) (now (marks .entry)) (now (order .entry)) before ⌝ }
 {
     judge(table, counts, words, flags, marks, start);
-    stow(marks, start, table.n);
+    offer(marks, start, table.plan.special_len);
     let placed = take_live(table, counts, words, flags, marks, order, start, before);
-    unstow(marks, start);
+    restore(marks, order, placed);
     placed
 }

@@ -4,11 +4,18 @@ ghost use mathlib.Core.Path.{_≡_};
 ghost use Prim.Native.Nat.{_<_};
 ghost use lib.ListN.{length};
 ghost use Rattle.audit.specs.Greedy.{ready};
+ghost use Rattle.audit.specs.ReadyLaws.{vacantAt};
+ghost use Rattle.funnel.specs.Search.{findOf};
+ghost use Rattle.funnel.specs.Stop.{StopsAt};
 ghost use Rattle.funnel.specs.Valid.{Valid};
 use funnel::insert::slot_of;
+use funnel::scan::pass;
 use funnel::search::find;
+use funnel::search::first_bucket;
 use funnel::table::FunnelTable;
 use funnel::table::Search;
+use funnel::table::Stop;
+use probe::word::funnel_key;
 
 // Whether a slot is ready, with some placed.
 pub fn is_ready(
@@ -34,21 +41,68 @@ pub fn is_ready(
         return false;
     }
     let identity = words[s];
-    match find(table, counts, words, marks, identity) {
-        Search::Vacant { probes: _, place } => {
-            return slot_of(place) == slot;
+    match pass_placed(table, counts, words, marks, identity) {
+        Stop::Vacant { slot: found } => found == slot,
+        Stop::Hit { slot: _ } => false,
+        Stop::Nowhere => ends_at(table, counts, words, marks, identity, slot),
+    }
+}
+
+// The slot that the levels settle a search of the placed part with. This is the walk of `funnel::search::pass_levels` once more, since
+// a walk is compiled into its caller only where it has no other, and both loops gain by that.
+fn pass_placed(
+    table: FunnelTable,
+    counts: &[u64; 118],
+    words: &[u64],
+    marks: &[u8],
+    identity: u64,
+) -> Stop
+    requires { ⌜ Valid table (now counts) (now words) (now marks) ⌝ }
+    ensures { λ r. ⌜ StopsAt r (findOf table (now (counts .entry)) (now (words .entry)) (now (marks .entry)) identity) (Unit {0}) ⌝ }
+{
+    let key = funnel_key(table.seed, identity);
+    let alpha = table.plan.alpha;
+    let beta = table.plan.beta;
+    let mut level = 0;
+    let mut start = 0;
+    let mut bucket = first_bucket(key, counts, alpha, 0);
+    while level < alpha {
+        let count = counts[level as usize];
+        if count <= bucket {
+            return Stop::Nowhere;
         }
+        let ahead = first_bucket(key, counts, table.plan.alpha, level + 1);
+        let from = start + bucket * beta;
+        let stop = pass(words, marks, identity, from, beta);
+        let Stop::Nowhere = stop else {
+            return stop;
+        };
+        bucket = ahead;
+        start += count * beta;
+        level += 1;
+    }
+    Stop::Nowhere
+}
+
+// Whether the search of the placed part ends vacant at a slot. For the few identities that first words in the levels do not settle.
+fn ends_at(
+    table: FunnelTable,
+    counts: &[u64; 118],
+    words: &[u64],
+    marks: &[u8],
+    identity: u64,
+    slot: u64,
+) -> bool
+    requires { ⌜ Valid table (now counts) (now words) (now marks) ⌝ }
+    ensures { λ r. ⌜ r ≡ vacantAt slot (findOf table (now (counts .entry)) (now (words .entry)) (now (marks .entry)) identity) ⌝ }
+{
+    match find(table, counts, words, marks, identity) {
+        Search::Vacant { probes: _, place } => slot_of(place) == slot,
         Search::Hit {
             probes: _,
             place: _,
-        } => {
-            return false;
-        }
-        Search::Full { probes: _ } => {
-            return false;
-        }
-        Search::Range(_) => {
-            return false;
-        }
+        } => false,
+        Search::Full { probes: _ } => false,
+        Search::Range(_) => false,
     }
 }

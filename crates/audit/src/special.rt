@@ -1,14 +1,14 @@
-// The special slots that are ready: the search of a live slot's identity along the special slots alone.
+// The turns in the special part. A member that is live is a candidate: it is looked at when it is the smallest. One whose search ends vacant at
+// another slot is filed under that slot, and is a candidate again when that slot is placed; the search of any other that is not ready
+// ends where it will always end.
 ghost use mathlib.Core.Path.{_≡_};
-ghost use Prim.Native.Nat.{_*_, _-_, _≤_, _<_};
-ghost use lib.ListN.{length};
-ghost use Rattle.audit.specs.Greedy.{firstFrom, taken, greedyOf};
-ghost use Rattle.audit.specs.Going.{Going};
-ghost use Rattle.audit.specs.Special.{specialPath, readyPast};
-ghost use Rattle.audit.specs.Verdicts.{bare, Kept, readyKept};
+ghost use Prim.Native.Nat.{_<_};
+ghost use Rattle.audit.specs.Special.{specialPath};
+ghost use Rattle.audit.specs.Waits.{specialEnd, vacancyOf, Begun, Finished, Chosen, Turned};
 ghost use Rattle.funnel.specs.Path.{primaryStart};
 ghost use Rattle.funnel.specs.Search.{searchOf};
 ghost use Rattle.funnel.specs.Valid.{Valid};
+ghost use Rattle.waiting.specs.Links.{Fits};
 use crate::slots::First;
 use funnel::insert::slot_of;
 use funnel::search::search_fallback;
@@ -16,9 +16,14 @@ use funnel::search::search_primary;
 use funnel::table::FunnelTable;
 use funnel::table::Search;
 use probe::word::funnel_key;
+use queue::keep::remove;
+use queue::keep::smallest;
+use queue::scan::Smallest;
+use waiting::chain::file;
+use waiting::chain::wake;
 
 // Takes the smallest ready slot of the special part, which starts at `start`, again and again: how many are placed then. The ordinary
-// marks hold the verdicts.
+// marks hold the candidates and those that wait.
 pub fn take_live(
     table: FunnelTable,
     counts: &[u64; 118],
@@ -29,15 +34,19 @@ pub fn take_live(
     start: u64,
     before: u64,
 ) -> u64
-    requires { ⌜ Valid table (now counts) (now words) (now marks) × (start ≡ primaryStart (table .plan) (now counts)) × (start ≤ table .n) × (table .n ≤ 2 * start) × Kept table (now counts) (now words) (now flags) (now marks) start × Going (greedyOf table (now counts) (now words) (now flags) (table .n) (table .n - before) (bare start (now marks)) (now order) before) table (now counts) (now words) (now flags) (bare start (now marks)) (now order) before start ⌝ }
-    ensures { λ r. ⌜ taken (bare start (now (marks .exit))) (now (order .exit)) r ≡ greedyOf table (now (counts .entry)) (now (words .entry)) (now (flags .entry)) (table .n) (table .n - before) (bare start (now (marks .entry))) (now (order .entry)) before ⌝ }
+    requires { ⌜ Valid table (now counts) (now words) (now marks) × (start ≡ primaryStart (table .plan) (now counts)) × Begun table (now counts) (now words) (now flags) start (table .plan .«special_len») (now marks) (now order) before ⌝ }
+    ensures { λ r. ⌜ Finished table (now (counts .entry)) (now (words .entry)) (now (flags .entry)) start (table .plan .«special_len») (now (marks .entry)) (now (order .entry)) before (now (order .exit)) r ⌝ }
 {
     let n = table.n;
+    let m = table.plan.special_len;
     let mut placed = before;
     while placed < n {
         match next_live(table, counts, words, marks, placed, start) {
             First::At { slot } => {
+                let number = slot - start;
+                wake(marks, m, number);
                 marks[slot as usize] = 1;
+                remove(marks, 8 * m, m, number);
                 order[placed as usize] = slot;
                 placed += 1;
             }
@@ -49,68 +58,74 @@ pub fn take_live(
     placed
 }
 
-// The smallest slot of the special part that is live and ready.
+// The smallest candidate that is ready. Those before it are candidates no longer: they are filed, or can never be ready.
 fn next_live(
     table: FunnelTable,
     counts: &[u64; 118],
     words: &[u64],
-    marks: &[u8],
+    marks: &mut [u8],
     placed: u64,
     start: u64,
 ) -> First
-    requires { ⌜ Valid table (now counts) (now words) (now marks) × (start ≡ primaryStart (table .plan) (now counts)) × (table .n ≤ 2 * start) ⌝ }
-    ensures { λ r. ⌜ r ≡ firstFrom (readyKept table (now (words .entry)) (now (marks .entry)) start placed) start (table .n - start) ⌝ }
+    requires { ⌜ Valid table (now counts) (now words) (now marks) × (start ≡ primaryStart (table .plan) (now counts)) × Fits (now marks) (table .plan .«special_len») ⌝ }
+    ensures { λ r. ⌜ Turned table (now (words .entry)) start (table .plan .«special_len») (now (marks .entry)) (now (marks .exit)) × Chosen table (now (words .entry)) start (table .plan .«special_len») placed (now (marks .entry)) (now (marks .exit)) r ⌝ }
 {
-    let n = table.n;
-    let mut slot = start;
-    while slot < n {
-        let at = slot;
-        slot += 1;
-        if 1 < marks[(at - start) as usize] {
-            if is_ready_past(table, counts, words, marks, placed, start, at) {
-                return First::At { slot: at };
+    if table.plan.maximum <= placed {
+        return First::Nothing;
+    }
+    let m = table.plan.special_len;
+    loop {
+        match smallest(marks, 8 * m, m) {
+            Smallest::Nothing => {
+                return First::Nothing;
+            }
+            Smallest::At { number } => {
+                let slot = start + number;
+                match vacancy(table, counts, words, marks, start, slot) {
+                    First::Nothing => {
+                        remove(marks, 8 * m, m, number);
+                    }
+                    First::At { slot: end } => {
+                        if end == slot {
+                            return First::At { slot };
+                        }
+                        file(marks, m, number, end - start);
+                    }
+                }
             }
         }
     }
-    First::Nothing
 }
 
-// Whether a slot is ready by the special part of its path.
-fn is_ready_past(
+// The slot at which the search of a special slot's identity along the special slots ends vacant.
+fn vacancy(
     table: FunnelTable,
     counts: &[u64; 118],
     words: &[u64],
     marks: &[u8],
-    placed: u64,
     start: u64,
     slot: u64,
-) -> bool
+) -> First
     requires { ⌜ Valid table (now counts) (now words) (now marks) × (start ≡ primaryStart (table .plan) (now counts)) × (slot < table .n) ⌝ }
-    ensures { λ r. ⌜ r ≡ readyPast table (now (words .entry)) (now (marks .entry)) start placed slot ⌝ }
+    ensures { λ r. ⌜ r ≡ vacancyOf (specialEnd table (now (words .entry)) (now (marks .entry)) start slot) ⌝ }
 {
-    let s = slot as usize;
-    if marks[s] != 0 {
-        return false;
-    }
-    if table.plan.maximum <= placed {
-        return false;
-    }
-    let identity = words[s];
+    let identity = words[slot as usize];
     match find_special(table, counts, words, marks, start, identity) {
         Search::Vacant { probes: _, place } => {
-            return slot_of(place) == slot;
+            let end = slot_of(place);
+            return First::At { slot: end };
         }
         Search::Hit {
             probes: _,
             place: _,
         } => {
-            return false;
+            return First::Nothing;
         }
         Search::Full { probes: _ } => {
-            return false;
+            return First::Nothing;
         }
         Search::Range(_) => {
-            return false;
+            return First::Nothing;
         }
     }
 }

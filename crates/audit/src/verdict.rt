@@ -1,16 +1,19 @@
 // The verdicts on the special slots. Once no ordinary slot is left to take, the ordinary part of a special member's path is read for the
-// last time: only a member whose search goes on past it can ever be ready. The verdicts are kept in the ordinary marks, above
-// their lowest bit, since the searches along the special slots do not read these.
+// last time: only a member whose search goes on past it can ever be ready. Those are queued in the ordinary marks, since the searches
+// along the special slots do not read these.
 ghost use mathlib.Core.Path.{_≡_};
-ghost use Prim.Native.Nat.{_*_, _≤_, _<_};
+ghost use Prim.Native.Nat.{_+_, _≤_, _<_};
 ghost use lib.ListN.{length};
 ghost use Rattle.audit.specs.Special.{live};
-ghost use Rattle.audit.specs.Verdicts.{bare, Judged, Stowed};
+ghost use Rattle.audit.specs.Verdicts.{Judged, Offered};
 ghost use Rattle.funnel.specs.Path.{primaryStart};
 ghost use Rattle.funnel.specs.Valid.{Valid};
+ghost use Rattle.waiting.specs.Links.{space};
 use funnel::search::find_ordinary;
 use funnel::table::FunnelTable;
 use funnel::table::Search;
+use queue::keep::add;
+use waiting::chain::clear;
 
 // Gives a verdict on each special slot, in its own mark: 1 for a slot that is live.
 pub fn judge(
@@ -76,31 +79,20 @@ fn is_live(
     }
 }
 
-// Moves the verdicts from the special marks to the ordinary ones, and clears the special marks.
-pub fn stow(marks: &mut [u8], start: u64, n: u64)
-    requires { ⌜ (length (now marks) ≡ n) × (start ≤ n) × (n ≤ 2 * start) ⌝ }
-    ensures { λ r. ⌜ Stowed start n (now (marks .entry)) (now (marks .exit)) ⌝ }
+// Queues the special slots whose verdict is 1 by their numbers, and clears the special marks. No slot waits on another yet.
+pub fn offer(marks: &mut [u8], start: u64, m: u64)
+    requires { ⌜ (length (now marks) ≡ start + m) × (space m ≤ start) × (m < 4294967296) ⌝ }
+    ensures { λ r. ⌜ Offered start m m (now (marks .entry)) (now (marks .exit)) ⌝ }
 {
-    let mut slot = start;
-    while slot < n {
-        let at = slot - start;
-        let verdict = marks[slot as usize] % 2;
-        let mark = marks[at as usize] % 2;
-        marks[slot as usize] = 0;
-        marks[at as usize] = mark + verdict * 2;
-        slot += 1;
-    }
-}
-
-// Takes the verdicts off the ordinary marks.
-pub fn unstow(marks: &mut [u8], start: u64)
-    requires { ⌜ start ≤ length (now marks) ⌝ }
-    ensures { λ r. ⌜ now (marks .exit) ≡ bare start (now (marks .entry)) ⌝ }
-{
-    let mut slot = 0;
-    while slot < start {
-        let s = slot as usize;
-        marks[s] = marks[s] % 2;
-        slot += 1;
+    clear(marks, m);
+    let mut number = 0;
+    while number < m {
+        let x = number;
+        number += 1;
+        let at = (start + x) as usize;
+        if marks[at] != 0 {
+            marks[at] = 0;
+            add(marks, 8 * m, m, x);
+        }
     }
 }

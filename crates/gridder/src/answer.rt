@@ -29,13 +29,13 @@ const BUCKET: usize = 24;
 
 const WITHIN: usize = 32;
 
-const SLOT: usize = 40;
+pub const SLOT: usize = 40;
 
 const WORDS: usize = 48;
 
 const FOUND: usize = 56;
 
-const PLACED: usize = 64;
+pub const PLACED: usize = 64;
 
 // A refusal of the gate, which has nothing to say but its number.
 pub fn say_gate(answer: &mut [u8], gate: Gate) -> u64

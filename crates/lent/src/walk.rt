@@ -51,6 +51,21 @@ pub fn find(
     search_fallback(table, fallback_start, words, flags, identity, key, more)
 }
 
+// The search along the ordinary part of an identity's path alone.
+pub fn find_ordinary(
+    table: FunnelTable,
+    counts: &[u64; 118],
+    words: &[u8],
+    flags: &[u8],
+    identity: u64,
+) -> Search
+    requires { ⌜ ValidLent table (now counts) (now words) (now flags) ⌝ }
+    ensures { λ r. ⌜ r ≡ searchOf (wordsOf (now (words .entry))) (now (flags .entry)) identity (levelsFrom (table .plan) (now (counts .entry)) (table .seed) (table .«word_cap») identity 0 (table .plan .alpha)) 0 ⌝ }
+{
+    let key = funnel_key(table.seed, identity);
+    search_levels(table, counts, words, flags, identity, key)
+}
+
 // "per level one bucket, slots in order"
 fn search_levels(
     table: FunnelTable,
@@ -129,7 +144,7 @@ pub fn pass_levels(
 }
 
 // "then g primary probes", among the primary slots from `start` on, with some probes made before
-fn search_primary(
+pub fn search_primary(
     table: FunnelTable,
     start: u64,
     words: &[u8],
@@ -170,7 +185,7 @@ fn search_primary(
 }
 
 // "then buckets A and B both sampled, slot by slot, A before B", among the fallback buckets from `start` on
-fn search_fallback(
+pub fn search_fallback(
     table: FunnelTable,
     start: u64,
     words: &[u8],

@@ -1,11 +1,13 @@
 -- `audit::pass::take_members` meets its contract. Assumes nothing.
+use Prim.Native.Nat.{ℕ}
 use native.Mathlib.Omega.{arith}
 use mathlib.Core.Path.{ap, sym, _∙_}
-use lib.ListN.{length, length-replicate}
+use lib.ListN.{length, replicate, length-replicate}
 use denote.Ref.{now}
 use Rattle.geometry.specs.FunnelLaws.{plan-facts}
 use Rattle.funnel.specs.PlanLaws.{primary-start}
 use Rattle.audit.specs.VerdictLaws.{early-cleared}
+use Rattle.audit.specs.MarkedLaws.{listed-whole}
 use Rattle.audit.specs.GreedyLaws.{going-on, greedy-cleared, valid-marks}
 use borrow.Author.Needs.{needs}
 use Rattle.audit.proofs.pass.take_members.Statement.{statement}
@@ -21,7 +23,7 @@ take-ordinary-requires : tie.Need-take-ordinary-requires
 take-ordinary-requires c κs = (valid-marks (c .before .before .before .before .before .before .before .before .before .before .before .pre .0) _ (ap length (c .before .before .before .before .before .clear-bytes .ensures) ∙ length-replicate _ _ ∙ c .before .before .before .before .before .before .before .before .before .before .before .pre .1), c .before .before .before .before .before .before .before .before .before .before .before .pre .0 .flags-length, c .before .before .before .before .before .before .before .before .before .before .before .pre .2, sym (primary-start (c .before .before .before .before .before .before .before .before .before .before .before .pre .0 .planned)), omega arith, early-cleared _ (now (c .before .before .before .before .before .before .before .before .before .before .before .args .marks)) (c .before .before .before .before .before .clear-bytes .ensures))
 
 take-special-requires : tie.Need-take-special-requires
-take-special-requires c κs = (valid-marks (c .before .before .before .before .before .before .before .before .before .before .before .before .before .before .before .before .before .before .pre .0) _ (c .before .before .before .before .before .before .take-ordinary .ensures .1 .marks-n), c .before .before .before .before .before .before .before .before .before .before .before .before .before .before .before .before .before .before .pre .0 .flags-length, sym (primary-start (c .before .before .before .before .before .before .before .before .before .before .before .before .before .before .before .before .before .before .pre .0 .planned)), omega arith, c .before .before .before .before .before .before .take-ordinary .ensures .0, going-on (c .before .before .before .before .before .before .take-ordinary .ensures .1))
+take-special-requires c κs = (valid-marks (c .before .before .before .before .before .before .before .before .before .before .before .before .before .before .before .before .before .before .pre .0) _ (c .before .before .before .before .before .before .take-ordinary .ensures .1 .marks-n), c .before .before .before .before .before .before .before .before .before .before .before .before .before .before .before .before .before .before .pre .0 .flags-length, sym (primary-start (c .before .before .before .before .before .before .before .before .before .before .before .before .before .before .before .before .before .before .pre .0 .planned)), omega arith, c .before .before .before .before .before .before .take-ordinary .ensures .0, going-on (c .before .before .before .before .before .before .take-ordinary .ensures .1), listed-whole _ _ _ _ _ _ _ _ (c .before .before .before .before .before .before .before .before .before .before .before .before .clear-bytes .ensures ∙ ap (λ (x : ℕ). replicate x 0) (c .before .before .before .before .before .before .before .before .before .before .before .before .before .before .before .before .before .before .pre .1)) (c .before .before .before .before .before .before .before .before .before .before .before .before .before .before .before .before .before .before .pre .2) (c .before .before .before .before .before .before .take-ordinary .ensures .1 .left))
 
 same-length : tie.Need-same-length
 same-length c = search needs

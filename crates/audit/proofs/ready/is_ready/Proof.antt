@@ -1,6 +1,6 @@
 -- `audit::ready::is_ready` meets its contract. Assumes nothing.
 use mathlib.Core.Path.{sym}
-use Rattle.audit.specs.ReadyLaws.{ready-vacant, ready-marked, ready-exhausted, ready-found}
+use Rattle.audit.specs.ReadyLaws.{ready-vacant, ready-marked, ready-exhausted, ready-stopped, ready-there, ready-ends}
 use borrow.Author.Needs.{needs}
 use Rattle.audit.proofs.ready.is_ready.Statement.{statement}
 use Rattle.audit.proofs.ready.is_ready.Tie as tie
@@ -26,35 +26,29 @@ mul-identity c = search needs
 shared-slice-read-identity : tie.Need-shared-slice-read-identity
 shared-slice-read-identity c = search needs
 
-find-requires : tie.Need-find-requires
-find-requires c κs = search needs
+pass-placed-requires : tie.Need-pass-placed-requires
+pass-placed-requires c κs = search needs
 
-enum-known-place : tie.Need-enum-known-place
-enum-known-place c = search needs
-
-slot-of-requires : tie.Need-slot-of-requires
-slot-of-requires c κs = search needs
-
-returns-4 : tie.Need-returns-4
-returns-4 c = rw (c .slot-of .ensures) (ready-found _ _ _ _ _ _ _ (c .before .before .before .before .before .before .if3 .left) (c .before .before .before .before .before .before .before .before .before .before .if1 .left) (c .before .before .before .before .before .before .before .before .if2 .left) _ _ (c .before .before .before .before .find .ensures) (c .before .before .place .given .1))
+enum-known-found : tie.Need-enum-known-found
+enum-known-found c = search needs
 
 enum-told : tie.Need-enum-told
 enum-told c = search needs
 
-returns-5 : tie.Need-returns-5
-returns-5 c = ready-found _ _ _ _ _ _ _ (c .before .before .before .before .if3 .left) (c .before .before .before .before .before .before .before .before .if1 .left) (c .before .before .before .before .before .before .if2 .left) _ _ (c .before .before .find .ensures) (c .enum-told .given .1)
-
 enum-told-2 : tie.Need-enum-told-2
 enum-told-2 c = search needs
 
+ends-at-requires : tie.Need-ends-at-requires
+ends-at-requires c κs = search needs
+
+returns-4 : tie.Need-returns-4
+returns-4 c = ready-stopped _ _ _ _ _ _ _ (c .before .before .before .before .before .if3 .left) (c .before .before .before .before .before .before .before .before .before .if1 .left) (c .before .before .before .before .before .before .before .if2 .left) _ _ (c .before .before .before .pass-placed .ensures) (c .before .found .given .1)
+
+returns-5 : tie.Need-returns-5
+returns-5 c = ready-there _ _ _ _ _ _ _ (c .before .before .before .before .if3 .left) (c .before .before .before .before .before .before .before .before .if1 .left) (c .before .before .before .before .before .before .if2 .left) _ _ (c .before .before .pass-placed .ensures) (c .enum-told .given .1)
+
 returns-6 : tie.Need-returns-6
-returns-6 c = ready-found _ _ _ _ _ _ _ (c .before .before .before .before .if3 .left) (c .before .before .before .before .before .before .before .before .if1 .left) (c .before .before .before .before .before .before .if2 .left) _ _ (c .before .before .find .ensures) (c .enum-told2 .given .1)
-
-enum-told-3 : tie.Need-enum-told-3
-enum-told-3 c = search needs
-
-returns-7 : tie.Need-returns-7
-returns-7 c = ready-found _ _ _ _ _ _ _ (c .before .before .before .before .if3 .left) (c .before .before .before .before .before .before .before .before .if1 .left) (c .before .before .before .before .before .before .if2 .left) _ _ (c .before .before .find .ensures) (c .enum-told3 .given .1)
+returns-6 c = ready-ends _ _ _ _ _ _ _ (c .before .before .before .before .before .if3 .left) (c .before .before .before .before .before .before .before .before .before .if1 .left) (c .before .before .before .before .before .before .before .if2 .left) _ (c .ends-at .ensures)
 
 pub is-ready-spec : {M : Type 1} → statement M
 is-ready-spec =
@@ -67,13 +61,11 @@ is-ready-spec =
     returns-3
     mul-identity
     shared-slice-read-identity
-    find-requires
-    enum-known-place
-    slot-of-requires
-    returns-4
+    pass-placed-requires
+    enum-known-found
     enum-told
-    returns-5
     enum-told-2
-    returns-6
-    enum-told-3
-    returns-7)
+    ends-at-requires
+    returns-4
+    returns-5
+    returns-6)

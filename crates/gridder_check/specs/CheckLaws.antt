@@ -1,0 +1,120 @@
+-- Laws of the exported check, by what its gate said. Assumes nothing.
+use mathlib.Core.Bool.{Bool, true, false, not}
+use mathlib.Core.List.{List, []}
+use mathlib.Core.Path.{_≡_, refl, ap, sym, _∙_}
+use Prim.Native.Nat.{ℕ, _*_, _<_}
+use native.Mathlib.Omega.{arith}
+use lib.Dec.{eqb}
+use lib.ListN.{length, replicate, length-replicate}
+use borrow.Author.Tests.{eq-eqb, ne-eqb, eqb-true}
+use Rattle.refusal.specs.Table.{numberOf, nameOf}
+use Rattle.refusal.specs.declared.Gate.{Gate}
+use Rattle.refusal.specs.declared.Gate.the-variants as gate
+use Rattle.refusal.specs.declared.Name.the-variants as name
+use Rattle.geometry.specs.Config.{refuseIf}
+use Rattle.geometry.specs.declared.config.Gated.{Gated}
+use Rattle.geometry.specs.declared.config.Gated.the-variants.{Passed, Refused}
+use Rattle.funnel.specs.CallLaws.{valid-gate}
+use Rattle.funnel.specs.Calls.{gateThen, tableGate}
+use Rattle.funnel.specs.declared.table.FunnelTable.{FunnelTable}
+use Rattle.audit.specs.Check.{ended, auditOf, checkGate, reportOf, Lent}
+use Rattle.audit.specs.CheckLaws.{gate-lent}
+use Rattle.audit.specs.declared.check.Checked.{Checked}
+use Rattle.lent.specs.Lent.{wordsOf, wordCount}
+use Rattle.lent.specs.LentLaws.{count-some}
+use Rattle.lent_check.specs.Valid.{CheckLent}
+use Rattle.gridder.specs.Answer.{answerLength, says, saying, Reply, reply}
+use Rattle.gridder.specs.CallLaws.{lent-valid}
+use Rattle.gridder.specs.State.{holdsFunnel, tableIn, countsIn}
+use Rattle.gridder_check.specs.Check.{checkCallGate, checkedFields, checkLeft, checkBy, checkCall}
+
+-- what a check says, by its answer
+module _ (done : Checked) (n : ℕ) (a : List ℕ) where
+  pub checked-says : (x : Checked) → done ≡ x → n ≡ reportOf x .number → a ≡ says (checkedFields x)
+      → reply n a ≡ reply (reportOf done .number) (says (checkedFields done))
+  checked-says x e p q = rw (e, p, q)
+
+-- ---- the gate
+
+module _ (table : FunnelTable) (counts : List ℕ) (words flags marks order answer : ℕ) (r : Gated) (is : r ≡ checkGate table counts words flags marks order) where
+  pub check-call-refused : (g : Gate) → r ≡ Refused g → Refused g ≡ checkCallGate table counts words flags marks order answer
+  unfolding checkCallGate
+  check-call-refused g h = let f : checkGate table counts words flags marks order ≡ Refused g = sym is ∙ h in sym (rw f)
+
+  pub check-call-other : r ≡ Passed → (answer ≡ answerLength → ⊥) → Refused gate.State ≡ checkCallGate table counts words flags marks order answer
+  unfolding checkCallGate
+  check-call-other h n = let f : checkGate table counts words flags marks order ≡ Passed = sym is ∙ h in sym (rw (f, ne-eqb _ _ n))
+
+  pub check-call-passed : r ≡ Passed → answer ≡ answerLength → Passed ≡ checkCallGate table counts words flags marks order answer
+  unfolding checkCallGate
+  check-call-passed h e = let f : checkGate table counts words flags marks order ≡ Passed = sym is ∙ h in sym (rw (f, eq-eqb _ _ e))
+
+-- what it says that a check's gate passed
+module _ (table : FunnelTable) (counts words flags marks order : List ℕ) where
+  check-lent : checkGate table counts (wordCount (length words)) (length flags) (length marks) (wordCount (length order)) ≡ Passed → CheckLent table counts words flags marks order
+  check-lent h =
+      let w : length (replicate {A = ℕ} (wordCount (length words)) 0) ≡ wordCount (length words) = length-replicate (wordCount (length words)) 0 in
+      let o : length (replicate {A = ℕ} (wordCount (length order)) 0) ≡ wordCount (length order) = length-replicate (wordCount (length order)) 0 in
+      let l : Lent table counts (replicate (wordCount (length words)) 0) flags marks (replicate (wordCount (length order)) 0) =
+      gate-lent table counts (replicate (wordCount (length words)) 0) flags marks (replicate (wordCount (length order)) 0) (rw (w, o) h) in
+      let t : tableGate table counts (wordCount (length words)) (length flags) ≡ Passed = rw w at (valid-gate (l .valid)) in
+      let two = l .valid .planned .configured .least in
+      record {
+        lent = lent-valid table counts words flags t;
+        marks-n = l .marks-n;
+        order-n = count-some (length order) (table .n) (omega arith) (sym o ∙ l .order-n);
+      }
+
+  pub record CheckReady (answer : List ℕ) : Type 0 where
+    pub lent : CheckLent table counts words flags marks order
+    pub room : length answer ≡ answerLength
+
+  check-ready : (answer : List ℕ) → checkCallGate table counts (wordCount (length words)) (length flags) (length marks) (wordCount (length order)) (length answer) ≡ Passed
+      → CheckReady answer
+  unfolding checkCallGate
+  check-ready answer h =
+      go (checkGate table counts (wordCount (length words)) (length flags) (length marks) (wordCount (length order))) (eqb (length answer) answerLength) refl refl h
+    where
+      go : (a : Gated) (b : Bool) → checkGate table counts (wordCount (length words)) (length flags) (length marks) (wordCount (length order)) ≡ a
+          → eqb (length answer) answerLength ≡ b → gateThen a (refuseIf (not b) gate.State Passed) ≡ Passed → CheckReady answer
+      go (Refused g) b p q h = let z : _≡_ {A = ℕ} 0 1 = cc in absurd (omega arith)
+      go Passed false p q h = let z : _≡_ {A = ℕ} 0 1 = cc in absurd (omega arith)
+      go Passed true p q h = record { lent = check-lent p; room = eqb-true _ _ q }
+
+-- ---- the call on a block that holds a state
+
+module _ (state words flags marks order answer : List ℕ) (table : FunnelTable) (counts : List ℕ) (entries places : ℕ)
+    (t : table ≡ tableIn state) (k : counts ≡ countsIn state) (w : entries ≡ wordCount (length words)) (o : places ≡ wordCount (length order))
+    (g : Gated) (is : g ≡ checkCallGate table counts entries (length flags) (length marks) places (length answer)) where
+  pub checking-ready : g ≡ Passed → CheckReady table counts words flags marks order answer
+  checking-ready p =
+      check-ready table counts words flags marks order answer
+      (let h : checkCallGate table counts entries (length flags) (length marks) places (length answer) ≡ Passed = sym is ∙ p in rw (← w, ← o) h)
+
+  gate-of : g ≡ checkCallGate (tableIn state) (countsIn state) (wordCount (length words)) (length flags) (length marks) (wordCount (length order)) (length answer)
+  gate-of = is ∙ rw (t, k, w, o)
+
+  module _ (held : holdsFunnel state ≡ true) (number : ℕ) (answer' : List ℕ) where
+    pub checking-refused : (x : Gate) → g ≡ Refused x → reply number answer' ≡ reply (numberOf (nameOf x)) (saying answer [])
+        → checkLeft number answer' marks (wordsOf order) ≡ checkCall state words flags marks order answer
+    unfolding checkCall checkBy
+    checking-refused x p e =
+        let n : number ≡ numberOf (nameOf x) = ap (λ (r : Reply). r .number) e in
+        let a : answer' ≡ saying answer [] = ap (λ (r : Reply). r .answer) e in
+        rw (n, a) (sym (rw (held, ← gate-of, p)))
+
+    pub checking-passed : (d : Checked) (marks' order' : List ℕ) → g ≡ Passed
+        → ended d marks' order' ≡ auditOf table counts (wordsOf words) flags marks (wordsOf order)
+        → reply number answer' ≡ reply (reportOf d .number) (says (checkedFields d))
+        → checkLeft number answer' marks' order' ≡ checkCall state words flags marks order answer
+    unfolding checkCall checkBy
+    checking-passed d marks' order' p i e =
+        let n : number ≡ reportOf d .number = ap (λ (r : Reply). r .number) e in
+        let a : answer' ≡ says (checkedFields d) = ap (λ (r : Reply). r .answer) e in
+        rw (n, a) (sym (rw (held, ← gate-of, p, ← t, ← k, ← i)))
+
+-- a block that holds no state
+pub checking-unheld : (state words flags marks order answer : List ℕ) (number : ℕ) → holdsFunnel state ≡ false → number ≡ numberOf name.State
+    → checkLeft number answer marks (wordsOf order) ≡ checkCall state words flags marks order answer
+unfolding checkCall
+checking-unheld state words flags marks order answer number h e = sym (rw (h, e))

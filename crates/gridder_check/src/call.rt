@@ -1,0 +1,117 @@
+// The exported check. It requires nothing.
+ghost use mathlib.Core.Bool.{true};
+ghost use mathlib.Core.Path.{_≡_};
+ghost use lib.ListN.{length};
+ghost use Rattle.audit.specs.Check.{reportOf};
+ghost use Rattle.gridder.specs.Answer.{says, reply};
+ghost use Rattle.gridder.specs.State.{holdsFunnel};
+ghost use Rattle.lent.specs.Lent.{wordsOf};
+ghost use Rattle.gridder_check.specs.Check.{checkCallGate, checkedFields, checkLeft, checkCall};
+use audit::check::Checked;
+use audit::check::check_gate;
+use funnel::table::FunnelTable;
+use geometry::config::Gated;
+use gridder::answer::ANSWER_LENGTH;
+use gridder::answer::PLACED;
+use gridder::answer::SLOT;
+use gridder::answer::say_gate;
+use gridder::state::holds_funnel;
+use gridder::state::read_counts;
+use gridder::state::table_in;
+use lent::word::word_count;
+use lent_check::check::audit;
+use refusal::Gate;
+use refusal::Name;
+use refusal::gate_name;
+use refusal::number;
+use words::bytes::write64;
+use words::clear::clear_bytes;
+
+// The check of a table: whether some order of insertions makes it. Marks and order are lent, n entries each.
+#[no_mangle]
+pub extern "C" fn landovireph_funnel_check(
+    state: &[u8],
+    words: &[u8],
+    flags: &[u8],
+    marks: &mut [u8],
+    order: &mut [u8],
+    answer: &mut [u8],
+) -> u64
+    ensures { λ r. ⌜ checkLeft r (now (answer .exit)) (now (marks .exit)) (wordsOf (now (order .exit))) ≡ checkCall (now (state .entry)) (now (words .entry)) (now (flags .entry)) (now (marks .entry)) (now (order .entry)) (now (answer .entry)) ⌝ }
+{
+    if holds_funnel(state) {
+        return check_in(state, words, flags, marks, order, answer);
+    }
+    number(Name::State)
+}
+
+fn check_in(
+    state: &[u8],
+    words: &[u8],
+    flags: &[u8],
+    marks: &mut [u8],
+    order: &mut [u8],
+    answer: &mut [u8],
+) -> u64
+    requires { ⌜ holdsFunnel (now state) ≡ true ⌝ }
+    ensures { λ r. ⌜ checkLeft r (now (answer .exit)) (now (marks .exit)) (wordsOf (now (order .exit))) ≡ checkCall (now (state .entry)) (now (words .entry)) (now (flags .entry)) (now (marks .entry)) (now (order .entry)) (now (answer .entry)) ⌝ }
+{
+    let table = table_in(state);
+    let mut counts = [0; 118];
+    read_counts(state, &mut counts);
+    let entries = word_count(words.len() as u64);
+    let places = word_count(order.len() as u64);
+    let slots = flags.len() as u64;
+    let marked = marks.len() as u64;
+    match check_call_gate(table, &counts, entries, slots, marked, places, answer.len()) {
+        Gated::Refused(g) => say_gate(answer, g),
+        Gated::Passed => say_checked(answer, audit(table, &counts, words, flags, marks, order)),
+    }
+}
+
+// The tests of a check, and the length of the answer block.
+fn check_call_gate(
+    table: FunnelTable,
+    counts: &[u64; 118],
+    words: u64,
+    flags: u64,
+    marks: u64,
+    order: u64,
+    answer: usize,
+) -> Gated
+    ensures { λ r. ⌜ r ≡ checkCallGate table (now (counts .entry)) words flags marks order answer ⌝ }
+{
+    match check_gate(table, counts, words, flags, marks, order) {
+        Gated::Refused(g) => Gated::Refused(g),
+        Gated::Passed => {
+            if answer != ANSWER_LENGTH {
+                return Gated::Refused(Gate::State);
+            }
+            Gated::Passed
+        }
+    }
+}
+
+// What a check found.
+fn say_checked(answer: &mut [u8], done: Checked) -> u64
+    requires { ⌜ length (now answer) ≡ 128 ⌝ }
+    ensures { λ r. ⌜ reply r (now (answer .exit)) ≡ reply (reportOf done .number) (says (checkedFields done)) ⌝ }
+{
+    clear_bytes(answer);
+    match done {
+        Checked::Accepted { placed } => {
+            write64(answer, PLACED, placed);
+            0
+        }
+        Checked::Disorder { placed, slot } => {
+            write64(answer, PLACED, placed);
+            write64(answer, SLOT, slot);
+            number(Name::Disorder)
+        }
+        Checked::Dirty { slot } => {
+            write64(answer, SLOT, slot);
+            number(Name::Dirty)
+        }
+        Checked::Gate(g) => number(gate_name(g)),
+    }
+}

@@ -1,0 +1,20 @@
+// The check of a funnel table whose words are lent as little-endian bytes, and its order too: audit's check over another storage.
+//
+// Only what reads words or reads and writes the order is written again. The walk over a path is lent's; what touches marks alone
+// (the queue of candidates, the chains of those that wait) is called as audit calls it, and the definitions and their laws are audit's.
+//
+//     check.rt    the check of a table that passed its gate
+//     pass.rt     the two passes
+//     ready.rt    whether a slot is ready
+//     verdict.rt  which special slots are live
+//     special.rt  the turns in the special part
+//     restore.rt  the marks, made again from the order
+//     slots.rt    the first dirty slot
+
+pub mod check;
+mod pass;
+mod ready;
+mod restore;
+mod slots;
+mod special;
+mod verdict;

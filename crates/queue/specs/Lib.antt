@@ -1,0 +1,5 @@
+pub mod FirstLaws
+pub mod Level
+pub mod LevelLaws
+pub mod Queue
+pub mod QueueLaws

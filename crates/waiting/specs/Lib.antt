@@ -1,0 +1,4 @@
+pub mod Links
+pub mod LinksLaws
+pub mod Waiting
+pub mod WaitingLaws
