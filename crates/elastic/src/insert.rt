@@ -181,7 +181,7 @@ pub fn place(
 }
 
 // What is answered of a slot that was taken, in a level that starts at `offset`.
-fn insertion_of(
+pub fn insertion_of(
     case: Case,
     level: u64,
     slot: u64,
@@ -206,7 +206,7 @@ fn insertion_of(
 }
 
 // The position of a probe of a level, which fits a word in every table.
-fn position_of(level: u64, probe: LogicalProbe) -> u64
+pub fn position_of(level: u64, probe: LogicalProbe) -> u64
     requires { ⌜ (level < 32) × (probe .0 < 8192) ⌝ }
     ensures { λ r. ⌜ r ≡ phi (level + 1) (probe .0 + 1) ⌝ }
 {
@@ -240,7 +240,7 @@ fn choose(st: State, counts: &[u64; 32], words: &[u64], flags: &[u8], identity: 
 }
 
 // The steps of a batch.
-fn steps(st: State, key: u64, counts: &[u64; 32], flags: &[u8], batch: u64) -> Chosen
+pub fn steps(st: State, key: u64, counts: &[u64; 32], flags: &[u8], batch: u64) -> Chosen
     requires { ⌜ Valid st (now counts) (st .n) (length (now flags)) × (batch < levelsOf (st .n)) ⌝ }
     ensures { λ r. ⌜ r ≡ stepsOf st key (now (counts .entry)) (now (flags .entry)) batch ⌝ }
 {

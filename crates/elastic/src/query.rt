@@ -42,19 +42,19 @@ pub enum QueryAnswer {
 
 // The numbers that every step of a query uses.
 pub struct Lookup {
-    id: u64,
-    key: u64,
-    n: u64,
-    last: u64,
-    word_cap: u64,
-    cap: u64,
+    pub id: u64,
+    pub key: u64,
+    pub n: u64,
+    pub last: u64,
+    pub word_cap: u64,
+    pub cap: u64,
 }
 
 // A node of the tree of positions.
 pub struct Stretch {
-    b: u64,
-    j: u64,
-    q: u64,
+    pub b: u64,
+    pub j: u64,
+    pub q: u64,
 }
 
 // What the positions of a node say: the identity, on with the counts, or refused.
@@ -240,7 +240,7 @@ fn along(
 }
 
 // The words that a reading adds: none at level 0 probe 0, which the first position has read.
-fn charge(i: u64, j: u64, taken: u64) -> u64
+pub fn charge(i: u64, j: u64, taken: u64) -> u64
     requires { ⌜ (0 < i) × (0 < j) × (i < 4294967296) × (j < 4294967296) ⌝ }
     ensures { λ r. ⌜ r ≡ charged i j taken ⌝ }
 {
@@ -250,14 +250,14 @@ fn charge(i: u64, j: u64, taken: u64) -> u64
     taken
 }
 
-fn least(a: u64, b: u64) -> u64
+pub fn least(a: u64, b: u64) -> u64
     ensures { λ r. ⌜ r ≡ min a b ⌝ }
 {
     if a < b { a } else { b }
 }
 
 // From the middle of a node to the next node.
-fn step(b: u64, j: u64, q: u64) -> Stretch
+pub fn step(b: u64, j: u64, q: u64) -> Stretch
     requires { ⌜ (Node b j q) × (b < 2 ^ 60) ⌝ }
     ensures { λ r. ⌜ (Next (b + 2 * (q / 4)) (r .b) (r .j) (r .q)) × (b < r .b) ⌝ }
 {

@@ -100,7 +100,7 @@ pub fn find_identity(words: &[u64], flags: &[u8], id: u64) -> Located
 }
 
 // 1 where two words are equal, else 0.
-fn same(a: u64, b: u64) -> u64
+pub fn same(a: u64, b: u64) -> u64
     ensures { λ r. ⌜ (r ≤ 1) × (r ≡ 0 → a ≡ b → ⊥) ⌝ }
 {
     if a == b { 1 } else { 0 }

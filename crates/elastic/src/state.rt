@@ -75,7 +75,7 @@ pub fn open(
 }
 
 // The tests of an opening.
-fn open_gate(n: u64, e: u32, limits: Limits, words: usize, flags: usize) -> Gated
+pub fn open_gate(n: u64, e: u32, limits: Limits, words: usize, flags: usize) -> Gated
     ensures { λ r. ⌜ r ≡ openGate n e limits words flags ⌝ }
 {
     match setting_gate(n, e, limits) {

@@ -193,7 +193,7 @@ fn open_blocks_gate(
 }
 
 // What a refused opening says: nothing where a state block of another length is STATE.
-fn refuse_open(state: usize, answer: &mut [u8], gate: Gate) -> u64
+pub fn refuse_open(state: usize, answer: &mut [u8], gate: Gate) -> u64
     ensures { λ r. ⌜ reply r (now (answer .exit)) ≡ reply (numberOf (nameOf gate)) (openSaying (numberOf (nameOf gate)) state (now (answer .entry))) ⌝ }
 {
     let refused = number(gate_name(gate));

@@ -1,0 +1,65 @@
+-- `gridder_elastic::calls::query_in` meets its contract. By what its gate said of the table in the block. Assumes nothing.
+use denote.Ref.{now}
+use native.Mathlib.Omega.{arith}
+use Rattle.gridder_elastic.specs.StateLaws.{holds-facts}
+use Rattle.gridder_elastic.specs.CallLaws.{gate-ready, query-refused, query-passed}
+use borrow.Author.Needs.{needs}
+use Rattle.gridder_elastic.proofs.calls.query_in.Statement.{statement}
+use Rattle.gridder_elastic.proofs.calls.query_in.Tie as tie
+
+state-in-requires : tie.Need-state-in-requires
+state-in-requires c κs = search needs
+
+read-counts-requires : tie.Need-read-counts-requires
+read-counts-requires c κs = let h = holds-facts _ (c .before .before .before .before .before .before .pre) in omega arith
+
+word-count-requires : tie.Need-word-count-requires
+word-count-requires c κs = search needs
+
+call-gate-requires : tie.Need-call-gate-requires
+call-gate-requires c κs = search needs
+
+enum-known-g : tie.Need-enum-known-g
+enum-known-g c = search needs
+
+say-gate-requires : tie.Need-say-gate-requires
+say-gate-requires c κs = search needs
+
+enum-told : tie.Need-enum-told
+enum-told c = search needs
+
+look-requires : tie.Need-look-requires
+look-requires c κs = gate-ready _ _ _ (now (c .before .before .before .before .before .before .before .before .before .before .before .before .before .before .args .answer)) _ _ _ (c .before .before .before .before .before .before .before .before .before .state-in .ensures) (c .before .before .before .before .before .before .before .read-counts .ensures) (c .before .before .before .before .before .before .word-count .ensures) _ (c .before .before .before .before .call-gate .ensures) (c .before .before .enum-told .given .1) .lent
+
+say-query-requires : tie.Need-say-query-requires
+say-query-requires c κs = gate-ready _ (now (c .before .before .before .before .before .before .before .before .before .before .before .before .before .before .before .args .words)) (now (c .before .before .before .before .before .before .before .before .before .before .before .before .before .before .before .args .flags)) (now (c .before .before .before .before .before .before .before .before .before .before .before .before .before .before .before .args .answer)) _ _ _ (c .before .before .before .before .before .before .before .before .before .before .state-in .ensures) (c .before .before .before .before .before .before .before .before .read-counts .ensures) (c .before .before .before .before .before .before .before .word-count .ensures) _ (c .before .before .before .before .before .call-gate .ensures) (c .before .before .before .enum-told .given .1) .room
+
+same-length : tie.Need-same-length
+same-length c = search needs
+
+returns : tie.Need-returns
+returns c = query-refused _ _ _ _ _ _ _ (c .before .before .before .before .before .before .before .before .before .before .before .before .state-in .ensures) (c .before .before .before .before .before .before .before .before .before .before .read-counts .ensures) (c .before .before .before .before .before .before .before .before .before .word-count .ensures) _ (c .before .before .before .before .before .before .before .call-gate .ensures) (c .before .before .before .before .before .before .before .before .before .before .before .before .before .before .before .before .before .pre) _ _ _ _ (c .before .before .before .before .before .g .given .1) (c .before .before .say-gate .ensures)
+
+same-length-2 : tie.Need-same-length-2
+same-length-2 c = search needs
+
+returns-2 : tie.Need-returns-2
+returns-2 c = query-passed _ _ _ _ _ _ _ (c .before .before .before .before .before .before .before .before .before .before .before .before .before .state-in .ensures) (c .before .before .before .before .before .before .before .before .before .before .before .read-counts .ensures) (c .before .before .before .before .before .before .before .before .before .before .word-count .ensures) _ (c .before .before .before .before .before .before .before .before .call-gate .ensures) (c .before .before .before .before .before .before .before .before .before .before .before .before .before .before .before .before .before .before .pre) _ _ _ _ (c .before .before .before .before .before .before .enum-told .given .1) (c .before .before .before .look .ensures) (c .before .before .say-query .ensures)
+
+pub query-in-spec : {M : Type 1} → statement M
+query-in-spec =
+    tie.close
+    (tie.spec
+    state-in-requires
+    read-counts-requires
+    word-count-requires
+    call-gate-requires
+    enum-known-g
+    say-gate-requires
+    enum-told
+    look-requires
+    say-query-requires
+    same-length
+    returns
+    same-length-2
+    returns-2)

@@ -1,0 +1,10 @@
+pub mod Valid
+pub mod State
+pub mod Say
+pub mod Calls
+pub mod LentLaws
+pub mod StateLaws
+pub mod SayLaws
+pub mod CallLaws
+pub mod OpenLaws
+pub mod BlockLaws

@@ -1,0 +1,235 @@
+// The exported calls on elastic tables. Each requires nothing.
+ghost use mathlib.Core.Bool.{true};
+ghost use mathlib.Core.Path.{_≡_};
+ghost use Prim.Native.Nat.{_≤_};
+ghost use lib.ListN.{length};
+ghost use Rattle.elastic.specs.State.{freshOf};
+ghost use Rattle.lent.specs.Lent.{wordsOf};
+ghost use Rattle.gridder.specs.Answer.{reply};
+ghost use Rattle.gridder.specs.Calls.{left};
+ghost use Rattle.gridder_elastic.specs.Calls.{callGate, queryCall, countedIn, insertCall, openBlocksGate, openCall, limitsOf, Fresh};
+ghost use Rattle.gridder_elastic.specs.State.{holdsElastic};
+use crate::insert::place;
+use crate::query::look;
+use crate::say::say_insert;
+use crate::say::say_query;
+use crate::state::holds_elastic;
+use crate::state::read_counts;
+use crate::state::state_in;
+use crate::state::write_counts;
+use crate::state::write_state;
+use elastic::insert::InsertAnswer;
+use elastic::state::Limits;
+use elastic::state::State;
+use elastic::state::open_gate;
+use elastic::state::state_gate;
+use geometry::config::Gated;
+use geometry::config::max_insertions;
+use geometry::elastic::ElasticPlan;
+use gridder::answer::ANSWER_LENGTH;
+use gridder::answer::say_gate;
+use gridder::funnels::refuse_open;
+use gridder::state::STATE_LENGTH;
+use lent::word::word_count;
+use refusal::Gate;
+use refusal::Name;
+use refusal::number;
+use words::clear::clear_bytes;
+use words::power::ceil_log2;
+
+// Where an identity is.
+#[no_mangle]
+pub extern "C" fn landovireph_elastic_query(
+    state: &[u8],
+    words: &[u8],
+    flags: &[u8],
+    identity: u64,
+    answer: &mut [u8],
+) -> u64
+    ensures { λ r. ⌜ reply r (now (answer .exit)) ≡ queryCall (now (state .entry)) (now (words .entry)) (now (flags .entry)) identity (now (answer .entry)) ⌝ }
+{
+    if holds_elastic(state) {
+        return query_in(state, words, flags, identity, answer);
+    }
+    number(Name::State)
+}
+
+fn query_in(state: &[u8], words: &[u8], flags: &[u8], identity: u64, answer: &mut [u8]) -> u64
+    requires { ⌜ holdsElastic (now state) ≡ true ⌝ }
+    ensures { λ r. ⌜ reply r (now (answer .exit)) ≡ queryCall (now (state .entry)) (now (words .entry)) (now (flags .entry)) identity (now (answer .entry)) ⌝ }
+{
+    let st = state_in(state);
+    let mut counts = [0; 32];
+    read_counts(state, &mut counts);
+    let entries = word_count(words.len() as u64) as usize;
+    match call_gate(st, &counts, entries, flags.len(), answer.len()) {
+        Gated::Refused(g) => say_gate(answer, g),
+        Gated::Passed => say_query(answer, look(st, &counts, words, flags, identity)),
+    }
+}
+
+// The base's tests of a state, and the length of the answer block.
+fn call_gate(st: State, counts: &[u64; 32], words: usize, flags: usize, answer: usize) -> Gated
+    ensures { λ r. ⌜ r ≡ callGate st (now (counts .entry)) words flags answer ⌝ }
+{
+    match state_gate(st, counts, words, flags) {
+        Gated::Refused(g) => Gated::Refused(g),
+        Gated::Passed => {
+            if answer != ANSWER_LENGTH {
+                return Gated::Refused(Gate::State);
+            }
+            Gated::Passed
+        }
+    }
+}
+
+// The insertion of an identity.
+#[no_mangle]
+pub extern "C" fn landovireph_elastic_insert(
+    state: &mut [u8],
+    words: &mut [u8],
+    flags: &mut [u8],
+    identity: u64,
+    answer: &mut [u8],
+) -> u64
+    ensures { λ r. ⌜ left r (now (answer .exit)) (now (state .exit)) (wordsOf (now (words .exit))) (now (flags .exit)) ≡ insertCall (now (state .entry)) (now (words .entry)) (now (flags .entry)) identity (now (answer .entry)) ⌝ }
+{
+    if holds_elastic(state) {
+        return insert_in(state, words, flags, identity, answer);
+    }
+    number(Name::State)
+}
+
+fn insert_in(
+    state: &mut [u8],
+    words: &mut [u8],
+    flags: &mut [u8],
+    identity: u64,
+    answer: &mut [u8],
+) -> u64
+    requires { ⌜ holdsElastic (now state) ≡ true ⌝ }
+    ensures { λ r. ⌜ left r (now (answer .exit)) (now (state .exit)) (wordsOf (now (words .exit))) (now (flags .exit)) ≡ insertCall (now (state .entry)) (now (words .entry)) (now (flags .entry)) identity (now (answer .entry)) ⌝ }
+{
+    let st = state_in(state);
+    let mut counts = [0; 32];
+    read_counts(state, &mut counts);
+    let entries = word_count(words.len() as u64) as usize;
+    match call_gate(st, &counts, entries, flags.len(), answer.len()) {
+        Gated::Refused(g) => say_gate(answer, g),
+        Gated::Passed => {
+            let done = place(st, &mut counts, words, flags, identity);
+            let said = done.answer;
+            let after = done.st;
+            count_insertion(state, said, after.count, &counts);
+            say_insert(answer, said)
+        }
+    }
+}
+
+// The counts in a block after an answer: an insertion steps them.
+fn count_insertion(state: &mut [u8], said: InsertAnswer, count: u64, counts: &[u64; 32])
+    requires { ⌜ length (now state) ≡ 2048 ⌝ }
+    ensures { λ r. ⌜ now (state .exit) ≡ countedIn (now (state .entry)) said count (now (counts .entry)) ⌝ }
+{
+    match said {
+        InsertAnswer::Refused(refusal) => {
+            return;
+        }
+        InsertAnswer::Inserted(insertion) => {
+            write_counts(state, count, counts);
+        }
+    }
+}
+
+// A fresh table: words and flags zeroed, its numbers in the state block.
+#[no_mangle]
+pub extern "C" fn landovireph_elastic_open(
+    n: u64,
+    e: u32,
+    seed: u64,
+    c: u64,
+    word_cap: u64,
+    search_cap: u64,
+    position_cap: u64,
+    state: &mut [u8],
+    words: &mut [u8],
+    flags: &mut [u8],
+    answer: &mut [u8],
+) -> u64
+    ensures { λ r. ⌜ left r (now (answer .exit)) (now (state .exit)) (wordsOf (now (words .exit))) (now (flags .exit)) ≡ openCall n e seed (limitsOf c «word_cap» «search_cap» «position_cap») (now (state .entry)) (now (words .entry)) (now (flags .entry)) (now (answer .entry)) ⌝ }
+{
+    let limits = Limits {
+        probe_budget_c: c,
+        range_word_cap: word_cap,
+        uniform_search_probe_cap: search_cap,
+        hit_query_position_cap: position_cap,
+    };
+    let entries = word_count(words.len() as u64) as usize;
+    let slots = flags.len();
+    match open_blocks_gate(n, e, limits, entries, slots, state.len(), answer.len()) {
+        Gated::Refused(g) => refuse_open(state.len(), answer, g),
+        Gated::Passed => open_in(fresh(n, e, seed, limits), state, words, flags, answer),
+    }
+}
+
+// The base's tests of an opening, and the lengths of both blocks.
+fn open_blocks_gate(
+    n: u64,
+    e: u32,
+    limits: Limits,
+    words: usize,
+    flags: usize,
+    state: usize,
+    answer: usize,
+) -> Gated
+    ensures { λ r. ⌜ r ≡ openBlocksGate n e limits words flags state answer ⌝ }
+{
+    match open_gate(n, e, limits, words, flags) {
+        Gated::Refused(g) => Gated::Refused(g),
+        Gated::Passed => {
+            if state != STATE_LENGTH {
+                return Gated::Refused(Gate::State);
+            }
+            if answer != ANSWER_LENGTH {
+                return Gated::Refused(Gate::State);
+            }
+            Gated::Passed
+        }
+    }
+}
+
+// The state of a fresh table.
+fn fresh(n: u64, e: u32, seed: u64, limits: Limits) -> State
+    requires { ⌜ 2 ≤ n ⌝ }
+    ensures { λ r. ⌜ r ≡ freshOf n e seed limits ⌝ }
+{
+    let levels = ceil_log2(n);
+    let maximum = max_insertions(n, e);
+    let plan = ElasticPlan { levels, maximum };
+    State {
+        n,
+        e,
+        seed,
+        limits,
+        plan,
+        count: 0,
+    }
+}
+
+fn open_in(
+    st: State,
+    state: &mut [u8],
+    words: &mut [u8],
+    flags: &mut [u8],
+    answer: &mut [u8],
+) -> u64
+    requires { ⌜ length (now state) ≡ 2048 ⌝ }
+    ensures { λ r. ⌜ Fresh st (now (words .entry)) (now (flags .entry)) (now (answer .entry)) r (now (state .exit)) (now (words .exit)) (now (flags .exit)) (now (answer .exit)) ⌝ }
+{
+    let counts = [0; 32];
+    write_state(state, st, &counts);
+    clear_bytes(words);
+    clear_bytes(flags);
+    clear_bytes(answer);
+    0
+}
