@@ -567,7 +567,8 @@ static void keeps_marks(uint64_t placed)
     }
     must(ones == placed && placed <= arenas[ORDER].length / 8, "marks and placed differ");
     for (k = 0; k < placed; k++)
-        must(word_now(ORDER, k) < arenas[MARKS].length && arenas[MARKS].at[word_now(ORDER, k)] == 1, "the order has a slot without a mark");
+        must(word_now(ORDER, k) < arenas[MARKS].length && arenas[MARKS].at[word_now(ORDER, k)] == 1,
+             "the order has a slot without a mark");
     must(memcmp(arenas[ORDER].at + 8 * placed, arenas[ORDER].before + 8 * placed, arenas[ORDER].length - 8 * placed) == 0,
          "the tail of the order was changed");
 }

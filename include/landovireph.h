@@ -146,8 +146,8 @@ enum landovireph_state_offset {
 };
 
 /*
- * The state block of an elastic table. The words up to the maximum are those of a funnel table; then come these. An insertion writes the
- * count and the count of one level. Bytes from 344 on are zeros, which no call reads.
+ * The state block of an elastic table. The words up to the maximum are those of a funnel table; then come these. An insertion
+ * writes the count and the count of one level. Bytes from 344 on are zeros, which no call reads.
  */
 enum landovireph_elastic_state_offset {
     LANDOVIREPH_ELASTIC_LEVELS = 56,
@@ -285,9 +285,9 @@ uint64_t landovireph_funnel_insert(uint8_t *state, size_t state_bytes,
  * entry k of slots becomes the slot of entry k of identities, whether it was there or was entered now. The state block is tested
  * once and not for each identity. Entries of slots behind the last identity stay as they were. Answers placed: how many
  * identities have their slot.
- * Refusals: 1 to 7, STATE also where identities or slots is no whole number of words, or slots has fewer entries than identities; then
- * the first refusal that an identity meets: RANGE with words, EXHAUSTED and FULL with probes, each with placed, which is the index of that
- * identity. Those before it are placed, their slots written and counted.
+ * Refusals: 1 to 7, STATE also where identities or slots is no whole number of words, or slots has fewer entries than
+ * identities; then the first refusal that an identity meets: RANGE with words, EXHAUSTED and FULL with probes, each with placed,
+ * which is the index of that identity. Those before it are placed, their slots written and counted.
  */
 uint64_t landovireph_funnel_place_all(uint8_t *state, size_t state_bytes,
                                       uint8_t *words, size_t words_bytes,
@@ -344,8 +344,8 @@ static inline uint64_t landovireph_image_bytes(uint64_t members, uint64_t label_
 /*
  * Elastic tables
  *
- * n from 2 to 2^32, e from 1; c at least 1 with c times min(e, 1024) at most 8,192; word cap 1 to 8; search cap 1 to 8,192; position cap
- * 1 to 984,263,340. An insertion reads the whole table for the identity: it is for tables of some thousands of slots.
+ * n from 2 to 2^32, e from 1; c at least 1 with c times min(e, 1024) at most 8,192; word cap 1 to 8; search cap 1 to 8,192;
+ * position cap 1 to 984,263,340. An insertion reads the whole table for the identity: it is for tables of some thousands of slots.
  */
 
 /*
@@ -360,10 +360,10 @@ uint64_t landovireph_elastic_open(uint64_t n, uint32_t e, uint64_t seed, uint64_
                                   uint8_t *answer, size_t answer_bytes);
 
 /*
- * Enters an identity: writes one word, its flag, the count and the count of its level. Answers the case, batch, free slots and budget, the
- * place (level, within, slot), the paper probe and, as position, phi.
- * Refusals: 1 to 3, 6, 7; DUPLICATE with slot, the smallest that holds it; EXHAUSTED; SCHEDULE; RANGE with words or SEARCH, as the steps meet
- * them; POSITION.
+ * Enters an identity: writes one word, its flag, the count and the count of its level. Answers the case, batch, free slots and
+ * budget, the place (level, within, slot), the paper probe and, as position, phi.
+ * Refusals: 1 to 3, 6, 7; DUPLICATE with slot, the smallest that holds it; EXHAUSTED; SCHEDULE; RANGE with words or SEARCH, as
+ * the steps meet them; POSITION.
  */
 uint64_t landovireph_elastic_insert(uint8_t *state, size_t state_bytes,
                                     uint8_t *words, size_t words_bytes,
