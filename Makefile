@@ -12,9 +12,10 @@ CC ?= cc
 CFLAGS ?= -O2 -g
 AR ?= ar
 
-# The crates whose exported calls the archive has; and those that their code comes from.
-EXPORTING = gridder gridder_images
-BELOW = words refusal geometry probe funnel elastic image audit lent
+# The crates whose exported calls the archive has; and the code that theirs comes from, which is in any crate but the programs'.
+EXPORTING = gridder gridder_images gridder_elastic gridder_check
+SOURCES := $(filter-out crates/layout/% crates/replay/% crates/examine/% crates/script% crates/text/% crates/bench_calls/%, \
+    $(wildcard crates/*/src/*.rt))
 
 OUT = target/c
 VERSION := $(shell sed -n 's/^.define LANDOVIREPH_VERSION "\(.*\)"/\1/p' include/landovireph.h)
@@ -26,7 +27,7 @@ DEMONSTRATION = $(OUT)/samples $(OUT)/gridder $(OUT)/tidy $(OUT)/sources
 all: $(OUT)/liblandovireph.a $(OUT)/landovireph.pc $(PROGRAMS) $(DEMONSTRATION)
 
 # Proves the crate, and compiles what is proved.
-target/staticlib/lib%.a: $(shell find $(EXPORTING:%=crates/%/src) $(BELOW:%=crates/%/src) -name '*.rt')
+target/staticlib/lib%.a: $(SOURCES)
 	rt staticlib $*
 
 # One archive of the crates' objects. Each has its own copy of what it shares with the others, under local names.
@@ -37,7 +38,7 @@ $(OUT)/landovireph.pc: host/landovireph.pc.in include/landovireph.h Makefile
 	@mkdir -p $(OUT)
 	sed -e 's|@PREFIX@|$(PREFIX)|' -e 's|@VERSION@|$(VERSION)|' $< > $@
 
-$(OUT)/replay: host/replay.c host/line.c host/line.h host/table.c host/table.h
+$(OUT)/replay: host/replay.c host/elastic.c host/replay.h host/line.c host/line.h host/table.c host/table.h
 $(OUT)/examine: host/examine.c host/table.c host/table.h
 $(OUT)/guard: host/guard.c
 

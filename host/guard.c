@@ -23,13 +23,14 @@
 
 #define NUMBERS 27         /* results from 0 to 26 */
 #define ROOM (1u << 16)    /* bytes that an arena can lend; whole pages */
-#define POOL 48            /* tables */
+#define POOL 48            /* tables of each kind */
 #define MOST_SLOTS 700     /* of one of them */
 #define MOST_IDENTITIES 40 /* of one place_all */
 
-enum call { OPEN, SEARCH, INSERT, PLACE_ALL, CHECK, LOAD, WRITE, CALLS };
+enum call { OPEN, SEARCH, INSERT, PLACE_ALL, CHECK, LOAD, WRITE, ELASTIC_OPEN, ELASTIC_INSERT, ELASTIC_QUERY, CALLS };
 
-static const char *const names[CALLS] = { "open", "search", "insert", "place_all", "check", "load", "write" };
+static const char *const names[CALLS] = { "funnel_open", "funnel_search", "funnel_insert", "funnel_place_all", "funnel_check",
+                                          "funnel_load", "funnel_write",  "elastic_open",  "elastic_insert",   "elastic_query" };
 
 static uint64_t tally[CALLS][NUMBERS];
 static uint64_t turn, seed_given;
@@ -159,12 +160,14 @@ static uint64_t word_before(int which, size_t k)
 /* ---- the tables that the calls start from */
 
 struct table {
+    bool elastic;
     uint64_t n, seed, cap;
     uint32_t e;
+    uint64_t c, search_cap, position_cap; /* elastic */
     uint8_t state[LANDOVIREPH_STATE_BYTES], words[8 * MOST_SLOTS], flags[MOST_SLOTS];
 };
 
-static struct table pool[POOL];
+static struct table pool[POOL], elastic_pool[POOL];
 static struct table *table; /* the one of this call */
 static bool damaged;        /* whether what is lent differs from it */
 
@@ -176,6 +179,9 @@ static uint64_t member(void)
 static uint64_t reopen(struct table *t)
 {
     uint8_t answer[LANDOVIREPH_ANSWER_BYTES];
+    if (t->elastic)
+        return landovireph_elastic_open(t->n, t->e, t->seed, t->c, t->cap, t->search_cap, t->position_cap, t->state, sizeof t->state,
+                                        t->words, 8 * t->n, t->flags, t->n, answer, sizeof answer);
     return landovireph_funnel_open(t->n, t->e, t->seed, t->cap, t->state, sizeof t->state, t->words, 8 * t->n, t->flags, t->n,
                                    answer, sizeof answer);
 }
@@ -183,25 +189,49 @@ static uint64_t reopen(struct table *t)
 static void fill(struct table *t, uint64_t members)
 {
     uint8_t answer[LANDOVIREPH_ANSWER_BYTES];
-    for (; members != 0; members--)
-        landovireph_funnel_insert(t->state, sizeof t->state, t->words, 8 * t->n, t->flags, t->n, member(), answer, sizeof answer);
+    for (; members != 0; members--) {
+        if (t->elastic)
+            landovireph_elastic_insert(t->state, sizeof t->state, t->words, 8 * t->n, t->flags, t->n, member(), answer, sizeof answer);
+        else
+            landovireph_funnel_insert(t->state, sizeof t->state, t->words, 8 * t->n, t->flags, t->n, member(), answer, sizeof answer);
+    }
+}
+
+/* Numbers that often make a table. */
+static void choose(struct table *t, bool elastic)
+{
+    t->elastic = elastic;
+    t->n = elastic ? 2 + below(200) : 100 + below(MOST_SLOTS - 100 + 1);
+    t->e = elastic ? 1 + (uint32_t)below(6) : 3 + (uint32_t)below(2);
+    t->seed = one_in(2) ? below(10) : draw();
+    t->cap = one_in(3) ? 1 : 1 + below(elastic ? 8 : 256);
+    t->c = 1 + below(8);
+    t->search_cap = one_in(4) ? 1 + below(20) : 8192;
+    t->position_cap = 1 + below(one_in(4) ? 100 : 100000);
 }
 
 /* Tables of sizes that have a layout: empty ones, some that are half full, some that are full. */
-static void make_pool(void)
+static void make_pool(struct table *tables, bool elastic)
 {
     int made = 0;
     while (made < POOL) {
-        struct table *t = &pool[made];
-        t->n = 100 + below(MOST_SLOTS - 100 + 1);
-        t->e = 3 + (uint32_t)below(2);
-        t->seed = one_in(2) ? below(10) : draw();
-        t->cap = 1 + below(256);
-        if (reopen(t) != 0)
+        choose(&tables[made], elastic);
+        if (reopen(&tables[made]) != 0)
             continue;
-        fill(t, made % 3 * t->n);
+        fill(&tables[made], (uint64_t)(made % 3) * tables[made].n);
         made++;
     }
+}
+
+/* An identity to ask for: any, or one that is in the table, or the one whose first word in an elastic table is 0, which a draw
+ * rejects unless the length is a power of two. */
+static uint64_t asked(void)
+{
+    if (one_in(16))
+        return 0 - table->seed - 0x9E3779B97F4A7C15u;
+    if (one_in(2))
+        return landovireph_get(table->words, 8 * below(table->n));
+    return member();
 }
 
 /* ---- what is done to the blocks and buffers before a call */
@@ -223,13 +253,25 @@ static size_t about(size_t length)
     }
 }
 
+/* Members of an elastic table counted in another of its first levels; the sum stays. */
+static void shift_levels(void)
+{
+    size_t from = LANDOVIREPH_ELASTIC_COUNTS + 8 * below(3), to = LANDOVIREPH_ELASTIC_COUNTS + 8 * below(3);
+    uint64_t many;
+    if (!table->elastic || arenas[STATE].length != LANDOVIREPH_STATE_BYTES)
+        return;
+    many = below(landovireph_get(arenas[STATE].at, from) + 1);
+    landovireph_put(arenas[STATE].at, from, landovireph_get(arenas[STATE].at, from) - many);
+    landovireph_put(arenas[STATE].at, to, landovireph_get(arenas[STATE].at, to) + many);
+}
+
 static void damage_state(void)
 {
     uint8_t *state = arenas[STATE].at;
-    size_t words = arenas[STATE].length / 8;
+    size_t words = arenas[STATE].length / 8, at;
     if (words == 0)
         return;
-    switch (below(6)) {
+    switch (below(8)) {
     case 0:
         noise(state, arenas[STATE].length);
         break;
@@ -237,7 +279,8 @@ static void damage_state(void)
         noise(state + 8 * below(words), 8);
         break;
     case 2: /* one of the numbers that open writes is one more or less */
-        landovireph_put(state, 8 * below(words < 40 ? words : 40), word_now(STATE, below(words < 40 ? words : 40)) + below(3) - 1);
+        at = below(words < 40 ? words : 40);
+        landovireph_put(state, 8 * at, word_now(STATE, at) + 2 * below(2) - 1);
         break;
     case 3:
         state[8 * below(words)] ^= (uint8_t)(1u << below(8));
@@ -246,8 +289,15 @@ static void damage_state(void)
         if (words > 5)
             landovireph_put(state, LANDOVIREPH_STATE_COUNT, below(2 * table->n));
         break;
-    default:
+    case 5:
         landovireph_put(state, LANDOVIREPH_STATE_KIND, below(4));
+        break;
+    case 6: /* n, e, seed or word cap is a small number */
+        if (words > 4)
+            landovireph_put(state, 8 * (1 + below(4)), below(4));
+        break;
+    default:
+        shift_levels();
     }
     settle(STATE);
 }
@@ -312,10 +362,11 @@ static void lend_noise(int which, size_t length)
 
 /* ---- rules that every call keeps */
 
-/* Whether the state block is one that a call on a funnel table can take anything from. */
-static bool holds_funnel(void)
+/* Whether the state block is one that this call can take anything from. */
+static bool holds_table(void)
 {
-    return arenas[STATE].length == LANDOVIREPH_STATE_BYTES && word_before(STATE, 0) == LANDOVIREPH_KIND_FUNNEL &&
+    uint64_t kind = current >= ELASTIC_OPEN ? LANDOVIREPH_KIND_ELASTIC : LANDOVIREPH_KIND_FUNNEL;
+    return arenas[STATE].length == LANDOVIREPH_STATE_BYTES && word_before(STATE, 0) == kind &&
            word_before(STATE, LANDOVIREPH_STATE_E / 8) < (uint64_t)1 << 32;
 }
 
@@ -373,13 +424,13 @@ static void count(uint64_t result)
     tally[current][result]++;
 }
 
-/* The rules of a call on a funnel table: a block that holds none is STATE, and says nothing. */
+/* The rules of a call on a table: a block that holds none of its kind is STATE, and says nothing. */
 static void keeps_rules(uint64_t result, const struct may *may)
 {
     count(result);
-    if (!holds_funnel())
-        must(result == LANDOVIREPH_STATE, "a block that holds no funnel table was taken");
-    keeps_answers(result, may, !holds_funnel());
+    if (!holds_table())
+        must(result == LANDOVIREPH_STATE, "a block that holds no such table was taken");
+    keeps_answers(result, may, !holds_table());
 }
 
 static void keeps_table(void)
@@ -412,31 +463,11 @@ static void keep_table(void)
 
 /* ---- the calls */
 
-static void try_open(void)
-{
-    static const struct may may[] = { { 0, 0 }, { -1, 0 } };
-    static const uint64_t odd[] = { 0, 1, 2, 143, (uint64_t)1 << 32, ((uint64_t)1 << 32) + 1, UINT64_MAX };
-    uint64_t n = one_in(6) ? odd[below(7)] : table->n, cap = one_in(6) ? below(300) : table->cap, result;
-    uint32_t e = one_in(6) ? (uint32_t)draw() >> below(32) : table->e;
-    bool other_state = arenas[STATE].length != LANDOVIREPH_STATE_BYTES;
-    result = landovireph_funnel_open(n, e, table->seed, cap, TABLE, LENT(ANSWER));
-    count(result);
-    keeps_answers(result, may, other_state && result == LANDOVIREPH_STATE);
-    if (result != 0) {
-        keeps_table();
-        return;
-    }
-    must(n == arenas[FLAGS].length && 8 * n == arenas[WORDS].length && !other_state, "a buffer of another length was taken");
-    must(word_now(STATE, 1) == n && word_now(STATE, LANDOVIREPH_STATE_COUNT / 8) == 0, "the state block is not that of a fresh table");
-    while (n-- != 0)
-        must(word_now(WORDS, n) == 0 && arenas[FLAGS].at[n] == 0, "a fresh table is not empty");
-}
-
 static void try_search(void)
 {
     static const struct may may[] = { { 0, PROBES | PLACE | FOUND }, { LANDOVIREPH_RANGE, RANGE_WORDS },
                                       { LANDOVIREPH_FULL, PROBES },  { -1, 0 } };
-    uint64_t identity = member(), slot;
+    uint64_t identity = asked(), slot;
     uint64_t result = landovireph_funnel_search(TABLE, identity, LENT(ANSWER));
     keeps_rules(result, may);
     keeps_table();
@@ -450,12 +481,21 @@ static void try_search(void)
         must(arenas[FLAGS].at[slot] == 0, "the slot is not vacant");
 }
 
+/* One slot, vacant before, holds the identity, and all others are as they were. */
+static void keeps_entered(uint64_t slot, uint64_t identity)
+{
+    must(slot < arenas[FLAGS].length && arenas[FLAGS].before[slot] == 0, "the slot was not vacant");
+    must(word_now(WORDS, slot) == identity && same_but_word(WORDS, slot), "other words than the slot's were changed");
+    arenas[FLAGS].before[slot] = 1;
+    must(same(FLAGS), "other flags than the slot's were changed, or it is not 1");
+}
+
 static void try_insert(void)
 {
     static const struct may may[] = { { 0, PROBES | PLACE },          { LANDOVIREPH_RANGE, RANGE_WORDS },
                                       { LANDOVIREPH_DUPLICATE, PROBES | PLACE }, { LANDOVIREPH_EXHAUSTED, PROBES },
                                       { LANDOVIREPH_FULL, PROBES },   { -1, 0 } };
-    uint64_t identity = member(), slot;
+    uint64_t identity = one_in(4) ? asked() : member(), slot;
     uint64_t result = landovireph_funnel_insert(TABLE, identity, LENT(ANSWER));
     keeps_rules(result, may);
     if (result != 0) {
@@ -463,10 +503,7 @@ static void try_insert(void)
         return;
     }
     slot = landovireph_answer_slot(arenas[ANSWER].at);
-    must(slot < arenas[FLAGS].length && arenas[FLAGS].before[slot] == 0, "the slot was not vacant");
-    must(word_now(WORDS, slot) == identity && same_but_word(WORDS, slot), "other words than the slot's were changed");
-    arenas[FLAGS].before[slot] = 1;
-    must(same(FLAGS), "other flags than the slot's were changed, or it is not 1");
+    keeps_entered(slot, identity);
     must(word_now(STATE, 5) == word_before(STATE, 5) + 1 && same_but_word(STATE, 5), "the state block is not one member on");
     keep_table();
 }
@@ -530,7 +567,8 @@ static void keeps_marks(uint64_t placed)
     }
     must(ones == placed && placed <= arenas[ORDER].length / 8, "marks and placed differ");
     for (k = 0; k < placed; k++)
-        must(word_now(ORDER, k) < arenas[MARKS].length && arenas[MARKS].at[word_now(ORDER, k)] == 1, "the order has a slot without a mark");
+        must(word_now(ORDER, k) < arenas[MARKS].length && arenas[MARKS].at[word_now(ORDER, k)] == 1,
+             "the order has a slot without a mark");
     must(memcmp(arenas[ORDER].at + 8 * placed, arenas[ORDER].before + 8 * placed, arenas[ORDER].length - 8 * placed) == 0,
          "the tail of the order was changed");
 }
@@ -620,7 +658,7 @@ static void try_load(void)
 {
     static const struct may may[] = { { 0, LABEL_AT }, { LANDOVIREPH_IMAGE, BYTE }, { LANDOVIREPH_FOREIGN, 0 }, { -1, 0 } };
     static uint8_t image[ROOM];
-    size_t length = image_of(one_in(4) ? &pool[below(POOL)] : table, image, sizeof image);
+    size_t length = image_of(one_in(4) || table->elastic ? &pool[below(POOL)] : table, image, sizeof image);
     uint64_t result;
     if (one_in(2))
         length = damage_image(image, length);
@@ -662,15 +700,103 @@ static void try_write(void)
          "bytes behind the image were changed");
 }
 
-static void (*const tries[CALLS])(void) = { try_open, try_search, try_insert, try_place_all, try_check, try_load, try_write };
+/* What both kinds of opening must leave: a refusal nothing, else a fresh table of n slots. */
+static void keeps_opened(uint64_t result, uint64_t n)
+{
+    static const struct may may[] = { { 0, 0 }, { -1, 0 } };
+    bool other_state = arenas[STATE].length != LANDOVIREPH_STATE_BYTES;
+    count(result);
+    keeps_answers(result, may, other_state && result == LANDOVIREPH_STATE);
+    if (result != 0) {
+        keeps_table();
+        return;
+    }
+    must(n == arenas[FLAGS].length && 8 * n == arenas[WORDS].length && !other_state, "a buffer of another length was taken");
+    must(word_now(STATE, 1) == n && word_now(STATE, 5) == 0, "the state block is not that of a fresh table");
+    while (n-- != 0)
+        must(word_now(WORDS, n) == 0 && arenas[FLAGS].at[n] == 0, "a fresh table is not empty");
+}
 
+/* A number that no table has, now and then. */
+static uint64_t strange_n(void)
+{
+    static const uint64_t odd[] = { 0, 1, 2, 143, (uint64_t)1 << 32, ((uint64_t)1 << 32) + 1, UINT64_MAX };
+    return one_in(6) ? odd[below(sizeof odd / sizeof odd[0])] : table->n;
+}
+
+static uint32_t strange_e(void)
+{
+    return one_in(6) ? (uint32_t)draw() >> below(32) : table->e;
+}
+
+static void try_open(void)
+{
+    uint64_t n = strange_n(), cap = one_in(6) ? below(300) : table->cap;
+    keeps_opened(landovireph_funnel_open(n, strange_e(), table->seed, cap, TABLE, LENT(ANSWER)), n);
+}
+
+static void try_elastic_open(void)
+{
+    uint64_t n = strange_n(), c = one_in(6) ? below(9000) : table->c, cap = one_in(6) ? below(20) : table->cap;
+    uint64_t search_cap = one_in(6) ? below(9000) : table->search_cap;
+    uint64_t position_cap = one_in(6) ? below(1000000000) : table->position_cap;
+    keeps_opened(landovireph_elastic_open(n, strange_e(), table->seed, c, cap, search_cap, position_cap, TABLE, LENT(ANSWER)), n);
+}
+
+#define ELASTIC_INSERTED                                                                                                     \
+    (PROBES | PLACE | BIT(LANDOVIREPH_ANSWER_POSITION) | BIT(LANDOVIREPH_ELASTIC_FREE) | BIT(LANDOVIREPH_ELASTIC_FREE_NEXT) | \
+     BIT(LANDOVIREPH_ELASTIC_BUDGET))
+
+static void try_elastic_insert(void)
+{
+    static const struct may may[] = { { 0, ELASTIC_INSERTED },       { LANDOVIREPH_DUPLICATE, SLOT }, { LANDOVIREPH_EXHAUSTED, 0 },
+                                      { LANDOVIREPH_SCHEDULE, 0 },   { LANDOVIREPH_RANGE, RANGE_WORDS }, { LANDOVIREPH_SEARCH, 0 },
+                                      { LANDOVIREPH_POSITION, 0 },   { -1, 0 } };
+    uint64_t identity = one_in(4) ? asked() : member(), slot, level;
+    uint64_t result = landovireph_elastic_insert(TABLE, identity, LENT(ANSWER));
+    keeps_rules(result, may);
+    if (result != 0) {
+        keeps_table();
+        return;
+    }
+    slot = landovireph_answer_slot(arenas[ANSWER].at);
+    level = landovireph_get(arenas[ANSWER].at, LANDOVIREPH_ANSWER_LEVEL);
+    keeps_entered(slot, identity);
+    must(level < 32 && word_now(STATE, 11 + level) == word_before(STATE, 11 + level) + 1, "the level is not one member on");
+    landovireph_put(arenas[STATE].before, 8 * (11 + level), word_now(STATE, 11 + level));
+    must(word_now(STATE, 5) == word_before(STATE, 5) + 1 && same_but_word(STATE, 5), "the state block is not one member on");
+    keep_table();
+}
+
+static void try_elastic_query(void)
+{
+    static const struct may may[] = { { 0, SLOT | RANGE_WORDS | BIT(LANDOVIREPH_ANSWER_POSITION) | BIT(LANDOVIREPH_ANSWER_MAPPED) |
+                                            BIT(LANDOVIREPH_ANSWER_GAP) },
+                                      { LANDOVIREPH_RANGE, RANGE_WORDS }, { LANDOVIREPH_ABSENT, 0 }, { -1, 0 } };
+    uint64_t identity = asked(), slot;
+    uint64_t result = landovireph_elastic_query(TABLE, identity, LENT(ANSWER));
+    keeps_rules(result, may);
+    keeps_table();
+    if (result != 0)
+        return;
+    slot = landovireph_answer_slot(arenas[ANSWER].at);
+    must(slot < arenas[FLAGS].length && arenas[FLAGS].at[slot] != 0 && word_now(WORDS, slot) == identity,
+         "the slot does not hold the identity");
+}
+
+static void (*const tries[CALLS])(void) = { try_open, try_search, try_insert,       try_place_all,      try_check,
+                                            try_load, try_write,  try_elastic_open, try_elastic_insert, try_elastic_query };
+
+/* A table of the call's own kind, but for a few times. */
 static void one_call(void)
 {
-    table = &pool[below(POOL)];
+    bool elastic;
+    current = (enum call)below(CALLS);
+    elastic = (current >= ELASTIC_OPEN) != one_in(50);
+    table = elastic ? &elastic_pool[below(POOL)] : &pool[below(POOL)];
     if (one_in(100) && reopen(table) != 0)
         fail("a table of the pool cannot be opened again");
     lend_table();
-    current = (enum call)below(CALLS);
     tries[current]();
 }
 
@@ -681,7 +807,7 @@ static void print_tally(void)
         uint64_t all = 0;
         for (number = 0; number < NUMBERS; number++)
             all += tally[call][number];
-        printf("%-10s %10" PRIu64 " calls:", names[call], all);
+        printf("%-16s %9" PRIu64 " calls:", names[call], all);
         for (number = 0; number < NUMBERS; number++)
             if (tally[call][number] != 0)
                 printf(" %s %" PRIu64, landovireph_refusal_name((uint64_t)number), tally[call][number]);
@@ -711,7 +837,8 @@ int main(int words, char **word)
     signal(SIGBUS, touched);
     for (i = 0; i < ARENAS; i++)
         make_arena(&arenas[i]);
-    make_pool();
+    make_pool(pool, false);
+    make_pool(elastic_pool, true);
     for (turn = 1; turn <= calls; turn++)
         one_call();
     print_tally();

@@ -11,26 +11,14 @@
  * What the calls must leave as it was is tested on the way: CHANGED stands behind an answer where they did not. A bulk run is made a
  * second time by placing many identities at a time: DIFFERS stands behind its answer where that leaves another table.
  */
-#include "line.h"
-#include "table.h"
+#include "replay.h"
 
 #include <inttypes.h>
 #include <stdio.h>
 #include <stdlib.h>
 #include <string.h>
 
-struct bounds {
-    size_t line;
-    uint64_t slots, room;
-};
-
-static struct bounds bounds;
-
-/* A command and the fields behind its word. */
-struct given {
-    const struct field *fields;
-    size_t count;
-};
+struct bounds bounds;
 
 /* The four numbers that a funnel table is opened with. */
 struct numbers {
@@ -50,17 +38,19 @@ static bool same_table(const struct table *a, const struct table *b)
            memcmp(a->flags, b->flags, a->n) == 0;
 }
 
+bool is_open_or_say(uint64_t refused)
+{
+    if (refused == TABLE_TOO_LARGE)
+        printf("L");
+    else if (refused != 0)
+        printf("R %" PRIu64, refused);
+    return refused == 0;
+}
+
 /* Opens the table, or prints why there is none. */
 static bool open_or_say(struct table *table, struct numbers numbers)
 {
-    uint64_t refused = table_open(table, numbers.n, numbers.e, numbers.seed, numbers.cap, bounds.slots);
-    if (refused == 0)
-        return true;
-    if (refused == TABLE_TOO_LARGE)
-        printf("L");
-    else
-        printf("R %" PRIu64, refused);
-    return false;
+    return is_open_or_say(table_open(table, numbers.n, numbers.e, numbers.seed, numbers.cap, bounds.slots));
 }
 
 static uint64_t said(const struct table *table, size_t offset)
@@ -183,9 +173,7 @@ static bool answer_run(struct given given)
     return true;
 }
 
-#define MOST_REFUSALS 27
-
-static void print_tally(const uint64_t *tally)
+void print_tally(const uint64_t *tally)
 {
     bool any = false;
     int number;
@@ -198,7 +186,7 @@ static void print_tally(const uint64_t *tally)
         printf("-");
 }
 
-static uint64_t bulk_identity(uint64_t start, uint64_t k)
+uint64_t bulk_identity(uint64_t start, uint64_t k)
 {
     return mix64(start + k * 0x9E3779B97F4A7C15u);
 }
@@ -507,8 +495,9 @@ struct command {
 };
 
 static const struct command commands[] = {
-    { "FRUN", answer_run },  { "FBULK", answer_bulk },  { "FL", answer_layout },
-    { "LOAD", answer_load }, { "WRITE", answer_write }, { "CHECK", answer_check },
+    { "FRUN", answer_run },         { "FBULK", answer_bulk },         { "FL", answer_layout },
+    { "LOAD", answer_load },        { "WRITE", answer_write },        { "CHECK", answer_check },
+    { "ERUN", answer_elastic_run }, { "EBULK", answer_elastic_bulk },
 };
 
 /* Commands of the protocol that no exported call answers, with the number of their fields. */

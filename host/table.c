@@ -51,6 +51,34 @@ uint64_t table_open(struct table *table, uint64_t n, uint32_t e, uint64_t seed, 
     return refused;
 }
 
+static uint64_t open_elastic(const struct elastic_numbers *numbers, struct table *table)
+{
+    return landovireph_elastic_open(numbers->n, numbers->e, numbers->seed, numbers->c, numbers->word_cap, numbers->search_cap,
+                                    numbers->position_cap, table->state, sizeof table->state, table->words, 8 * table->n,
+                                    table->flags, table->n, table->answer, sizeof table->answer);
+}
+
+uint64_t table_open_elastic(struct table *table, const struct elastic_numbers *numbers, uint64_t most_slots)
+{
+    uint8_t none[2];
+    uint64_t refused;
+    table->n = 0;
+    table->words = none;
+    table->flags = none + 1;
+    refused = open_elastic(numbers, table);
+    if (refused != LANDOVIREPH_STATE)
+        return refused;
+    if (numbers->n > most_slots)
+        return TABLE_TOO_LARGE;
+    table->n = numbers->n;
+    table->words = must_have(8 * table->n);
+    table->flags = must_have(table->n);
+    refused = open_elastic(numbers, table);
+    if (refused != 0)
+        table_close(table);
+    return refused;
+}
+
 void table_close(struct table *table)
 {
     free(table->words);

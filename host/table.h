@@ -1,4 +1,4 @@
-/* Funnel tables from the heap, of any size that the machine's memory holds. */
+/* Tables from the heap, of any size that the machine's memory holds. */
 #ifndef HOST_TABLE_H
 #define HOST_TABLE_H
 
@@ -22,6 +22,15 @@ uint64_t table_most_slots(void);
 /* A fresh table of at most most_slots: 0, a refusal from 1 to 6, or TABLE_TOO_LARGE. To be closed only after 0. */
 uint64_t table_open(struct table *table, uint64_t n, uint32_t e, uint64_t seed, uint64_t word_cap, uint64_t most_slots);
 void table_close(struct table *table);
+
+/* The numbers that an elastic table is opened with. */
+struct elastic_numbers {
+    uint64_t n, seed, c, word_cap, search_cap, position_cap;
+    uint32_t e;
+};
+
+/* The same for an elastic table. */
+uint64_t table_open_elastic(struct table *table, const struct elastic_numbers *numbers, uint64_t most_slots);
 
 uint64_t table_insert(struct table *table, uint64_t identity);
 uint64_t table_search(struct table *table, uint64_t identity);

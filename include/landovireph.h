@@ -145,6 +145,18 @@ enum landovireph_state_offset {
     LANDOVIREPH_STATE_COUNTS = 136          /* buckets of each of 118 levels, 0 past the last */
 };
 
+/*
+ * The state block of an elastic table. The words up to the maximum are those of a funnel table; then come these. An insertion
+ * writes the count and the count of one level. Bytes from 344 on are zeros, which no call reads.
+ */
+enum landovireph_elastic_state_offset {
+    LANDOVIREPH_ELASTIC_LEVELS = 56,
+    LANDOVIREPH_ELASTIC_C = 64,
+    LANDOVIREPH_ELASTIC_SEARCH_CAP = 72,
+    LANDOVIREPH_ELASTIC_POSITION_CAP = 80,
+    LANDOVIREPH_ELASTIC_COUNTS = 88 /* members of each of 32 levels, 0 past the last */
+};
+
 enum landovireph_state_kind { LANDOVIREPH_KIND_FUNNEL = 1, LANDOVIREPH_KIND_ELASTIC = 2 };
 
 static inline uint64_t landovireph_state_kind(const uint8_t *state)
@@ -186,6 +198,16 @@ enum landovireph_answer_offset {
     LANDOVIREPH_ANSWER_LABEL = 104,      /* where a label's body begins in the image */
     LANDOVIREPH_ANSWER_LABEL_BYTES = 112,
     LANDOVIREPH_ANSWER_IMAGE_BYTES = 120
+};
+
+/* What the calls on elastic tables write at other places than those above. */
+enum landovireph_elastic_answer_offset {
+    LANDOVIREPH_ELASTIC_PAPER_PROBE = 0,
+    LANDOVIREPH_ELASTIC_CASE = 8,          /* 0 in the first batch, else 1 to 3 */
+    LANDOVIREPH_ELASTIC_BATCH = 24,
+    LANDOVIREPH_ELASTIC_FREE = 96,         /* free slots of the current level before the insertion */
+    LANDOVIREPH_ELASTIC_FREE_NEXT = 104,   /* and of the next */
+    LANDOVIREPH_ELASTIC_BUDGET = 112
 };
 
 enum landovireph_place_kind { LANDOVIREPH_ORDINARY = 1, LANDOVIREPH_PRIMARY = 2, LANDOVIREPH_FALLBACK = 3 };
@@ -263,9 +285,9 @@ uint64_t landovireph_funnel_insert(uint8_t *state, size_t state_bytes,
  * entry k of slots becomes the slot of entry k of identities, whether it was there or was entered now. The state block is tested
  * once and not for each identity. Entries of slots behind the last identity stay as they were. Answers placed: how many
  * identities have their slot.
- * Refusals: 1 to 7, STATE also where identities or slots is no whole number of words, or slots has fewer entries than identities; then
- * the first refusal that an identity meets: RANGE with words, EXHAUSTED and FULL with probes, each with placed, which is the index of that
- * identity. Those before it are placed, their slots written and counted.
+ * Refusals: 1 to 7, STATE also where identities or slots is no whole number of words, or slots has fewer entries than
+ * identities; then the first refusal that an identity meets: RANGE with words, EXHAUSTED and FULL with probes, each with placed,
+ * which is the index of that identity. Those before it are placed, their slots written and counted.
  */
 uint64_t landovireph_funnel_place_all(uint8_t *state, size_t state_bytes,
                                       uint8_t *words, size_t words_bytes,
@@ -318,6 +340,47 @@ static inline uint64_t landovireph_image_bytes(uint64_t members, uint64_t label_
     uint64_t fields = members / 4095 + (members % 4095 != 0);
     return 29 + (label_bytes != 0 ? 3 + label_bytes : 0) + 3 * fields + 16 * members + 11;
 }
+
+/*
+ * Elastic tables
+ *
+ * n from 2 to 2^32, e from 1; c at least 1 with c times min(e, 1024) at most 8,192; word cap 1 to 8; search cap 1 to 8,192;
+ * position cap 1 to 984,263,340. An insertion reads the whole table for the identity: it is for tables of some thousands of slots.
+ */
+
+/*
+ * A fresh table: writes the state block, zeroes words and flags.
+ * Refusals: N, ZEROEXP, SIZE, LIMITS, STATE.
+ */
+uint64_t landovireph_elastic_open(uint64_t n, uint32_t e, uint64_t seed, uint64_t c, uint64_t word_cap, uint64_t search_cap,
+                                  uint64_t position_cap,
+                                  uint8_t *state, size_t state_bytes,
+                                  uint8_t *words, size_t words_bytes,
+                                  uint8_t *flags, size_t flags_bytes,
+                                  uint8_t *answer, size_t answer_bytes);
+
+/*
+ * Enters an identity: writes one word, its flag, the count and the count of its level. Answers the case, batch, free slots and
+ * budget, the place (level, within, slot), the paper probe and, as position, phi.
+ * Refusals: 1 to 3, 6, 7; DUPLICATE with slot, the smallest that holds it; EXHAUSTED; SCHEDULE; RANGE with words or SEARCH, as
+ * the steps meet them; POSITION.
+ */
+uint64_t landovireph_elastic_insert(uint8_t *state, size_t state_bytes,
+                                    uint8_t *words, size_t words_bytes,
+                                    uint8_t *flags, size_t flags_bytes,
+                                    uint64_t identity,
+                                    uint8_t *answer, size_t answer_bytes);
+
+/*
+ * Where an identity is. Answers position, slot, how many positions up to it were mapped and how many gaps, and the words drawn.
+ * Writes the answer block alone.
+ * Refusals: 1 to 3, 6, 7; RANGE with words; ABSENT.
+ */
+uint64_t landovireph_elastic_query(const uint8_t *state, size_t state_bytes,
+                                   const uint8_t *words, size_t words_bytes,
+                                   const uint8_t *flags, size_t flags_bytes,
+                                   uint64_t identity,
+                                   uint8_t *answer, size_t answer_bytes);
 
 #ifdef __cplusplus
 }

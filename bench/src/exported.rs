@@ -212,13 +212,13 @@ pub fn rows(table: &mut Table) {
 fn placing(table: &mut Table, size: &str, members: &[u64], ours: &mut Lent, core: &mut Funnel) {
     let mut slots = [vec![0; members.len()], vec![0; members.len()]];
     let [mine, other] = &mut slots;
-    table.row_after(&format!("exported place_all, {size}"), members.len(), ours, core, Lent::clear, Funnel::clear, |ours| {
+    table.row_after(&format!("exported: place_all filling, {size}"), members.len(), ours, core, Lent::clear, Funnel::clear, |ours| {
         assert_eq!(ours.place_all(members, mine), 0);
     }, |core| {
         assert!(core.place_all(members, other));
     });
     assert_eq!(mine, other);
-    table.row(&format!("exported place_all, hits, {size}"), members.len(), || {
+    table.row(&format!("exported: place_all hits, {size}"), members.len(), || {
         assert_eq!(ours.place_all(members, mine), 0);
     }, || {
         assert!(core.place_all(members, other));
@@ -230,7 +230,7 @@ fn checking(table: &mut Table, size: &str, members: &[u64], ours: &mut Lent, cor
     let n = ours.flags.len();
     let (mut marks, mut order) = (vec![0; n], vec![0; n]);
     let (mut other_marks, mut other_order) = (vec![0; n], vec![0; n]);
-    table.row(&format!("exported check, {size}"), members.len(), || {
+    table.row(&format!("exported: check, {size}"), members.len(), || {
         assert_eq!(ours.check(&mut marks, &mut order), 0);
     }, || {
         assert_eq!(core.check(&mut other_marks, &mut other_order), members.len() as u64);
@@ -241,7 +241,7 @@ fn checking(table: &mut Table, size: &str, members: &[u64], ours: &mut Lent, cor
 /// One call for each identity, on both sides with the test of the table.
 fn single(table: &mut Table, size: &str, members: &[u64], ours: &mut Lent, core: &mut Funnel) {
     let some = &members[..members.len().min(200_000)];
-    table.row(&format!("exported search, {size}"), some.len(), || {
+    table.row(&format!("exported: one search, {size}"), some.len(), || {
         for &id in some {
             assert_eq!(ours.search(id), 0);
         }
@@ -250,7 +250,7 @@ fn single(table: &mut Table, size: &str, members: &[u64], ours: &mut Lent, core:
             black_box(core.search_all(&[id]));
         }
     });
-    table.row_after(&format!("exported insert, {size}"), some.len(), ours, core, Lent::clear, Funnel::clear, |ours| {
+    table.row_after(&format!("exported: one insertion, {size}"), some.len(), ours, core, Lent::clear, Funnel::clear, |ours| {
         for &id in some {
             assert_eq!(ours.insert(id), 0);
         }
@@ -266,7 +266,7 @@ fn state_test(table: &mut Table, n: u64, e: u32) {
     const TIMES: usize = 100_000;
     let mut ours = Lent::open(n, e);
     let (plan, counts) = calls::funnel_plan(n, e).unwrap();
-    table.row(&format!("exported, test of the state block, n {n}, e {e}"), TIMES, || {
+    table.row(&format!("exported: state test, n {n}, e {e}"), TIMES, || {
         for _ in 0..TIMES {
             black_box(ours.search(black_box(7)));
         }

@@ -46,10 +46,10 @@ static inline struct source source_number(int i)
     return source;
 }
 
-/* A round source of height 1 at a distance from its centre: it falls off within about two cells. */
+/* A round source of height 1 at a distance from its centre: it falls off within about three cells. */
 static inline double source_shape(double dx, double dy)
 {
-    double fall = 1.0 + (dx * dx + dy * dy) / 5.0;
+    double fall = 1.0 + (dx * dx + dy * dy) / 9.0;
     return 1.0 / (fall * fall * fall);
 }
 

@@ -7,7 +7,8 @@
  * sums of another run; the table goes through the check first, and the run ends there where no order of insertions
  * makes it. --unchecked leaves the check out, as was done before there was one. --to writes the table's image and its sums,
  * --picture the field as a PGM file.
- * Exit status: 0; 1 where the table was refused; 2 where an argument or a file is wrong. Nothing is written unless every sample was summed.
+ * Exit status: 0; 1 where the table was refused; 2 where an argument or a file is wrong. Nothing is written unless every sample was
+ * summed.
  */
 #include "grid.h"
 
