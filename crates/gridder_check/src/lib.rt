@@ -7,4 +7,4 @@
 //
 // specs/Check.antt says what the call answers and leaves.
 
-mod call;
+pub mod call;
