@@ -1,6 +1,6 @@
+-- `gridder_elastic::route::find_identity` meets its contract. Assumes nothing.
 use Rattle.lent.specs.Lent.{wordsOf}
 use Prim.Native.Nat.{_≤_}
--- `gridder_elastic::route::find_identity` meets its contract. Assumes nothing.
 use native.Mathlib.Omega.{arith}
 use denote.Ref.{now}
 use lib.ListN.{length}

@@ -1,6 +1,6 @@
+-- `gridder_elastic::route::first_holding` meets its contract. The loop's invariant: the scan from here on gives what the whole gives. Assumes nothing.
 use lib.ListN.{length}
 use denote.Ref.{now}
--- `gridder_elastic::route::first_holding` meets its contract. The loop's invariant: the scan from here on gives what the whole gives. Assumes nothing.
 use mathlib.Core.Path.{sym, _∙_}
 use Prim.Native.Nat.{_-_, _<_, _≤_}
 use native.Mathlib.Omega.{arith}

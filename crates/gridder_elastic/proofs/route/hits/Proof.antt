@@ -1,6 +1,5 @@
-use mathlib.Core.Path.{_∙_}
 -- `gridder_elastic::route::hits` meets its contract. The loop's invariant: where nothing was found yet, no word so far is the identity. Assumes nothing.
-use mathlib.Core.Path.{_≡_}
+use mathlib.Core.Path.{_≡_, _∙_}
 use Prim.Native.Nat.{_-_, _≤_}
 use native.Mathlib.Omega.{arith}
 use borrow.Author.Needs.{needs}
