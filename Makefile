@@ -10,29 +10,26 @@ PREFIX ?= /usr/local
 DESTDIR ?=
 CC ?= cc
 CFLAGS ?= -O2 -g
-AR ?= ar
 
-# The crates whose exported calls the archive has; and the code that theirs comes from, which is in any crate but the programs'.
-EXPORTING = gridder gridder_images gridder_elastic gridder_check
+# The exported calls are in the crate landovireph; the code that theirs comes from is in any crate but the programs'.
 SOURCES := $(filter-out crates/layout/% crates/replay/% crates/examine/% crates/script% crates/text/% crates/bench_calls/%, \
     $(wildcard crates/*/src/*.rt))
+LIBRARY = target/staticlib/liblandovireph.a
 
 OUT = target/c
 VERSION := $(shell sed -n 's/^.define LANDOVIREPH_VERSION "\(.*\)"/\1/p' include/landovireph.h)
-LIBRARIES = $(EXPORTING:%=target/staticlib/lib%.a)
 COMPILE = $(CC) -std=gnu99 -Wall -Wextra $(CFLAGS) -Iinclude
 PROGRAMS = $(OUT)/replay $(OUT)/examine $(OUT)/guard
 DEMONSTRATION = $(OUT)/samples $(OUT)/gridder $(OUT)/tidy $(OUT)/sources
 
 all: $(OUT)/liblandovireph.a $(OUT)/landovireph.pc $(PROGRAMS) $(DEMONSTRATION)
 
-# Proves the crate, and compiles what is proved.
-target/staticlib/lib%.a: $(SOURCES)
-	rt staticlib $*
+# Proves the crate and what it is made of, where that is not done, and compiles what is proved.
+$(LIBRARY): $(SOURCES)
+	rt staticlib landovireph
 
-# One archive of the crates' objects. Each has its own copy of what it shares with the others, under local names.
-$(OUT)/liblandovireph.a: $(LIBRARIES) host/join
-	host/join $@ $(LIBRARIES)
+$(OUT)/liblandovireph.a: $(LIBRARY) host/take
+	host/take $(LIBRARY) $@
 
 $(OUT)/landovireph.pc: host/landovireph.pc.in include/landovireph.h Makefile
 	@mkdir -p $(OUT)

@@ -1,5 +1,3 @@
-pub mod Check
-pub mod CheckLaws
 pub mod FirstLaws
 pub mod Going
 pub mod Greedy

@@ -16,24 +16,20 @@
 // in the ordinary marks (crate `waiting`), which are made again from the order at the end. That the answer means what it should
 // (accepted exactly if some order makes the image) is proved in the crate `demand`, over the definitions alone.
 //
-//     check.rt   the call, its gate and its answer: Accepted, Disorder, Dirty, or a refusal 1 to 7
-//     pass.rt    the two passes
+// Here are the definitions and what looks at one slot; the passes over all slots and the public call are in `audit_calls`.
+//
 //     ready.rt   whether a slot is ready
 //     verdict.rt which special slots are live, and their queue
-//     special.rt the next special slot that is ready
 //     restore.rt the marks made again
 //     slots.rt   the first dirty slot, the first that is left
 //
-//     specs/Greedy.antt    the greedy order          specs/Check.antt   the check, its gate, its endings
+//     specs/Greedy.antt    the greedy order
 //     specs/Special.antt   a path's two parts        specs/Verdicts.antt   the verdicts, given and queued
 //     specs/Waits.antt     the turns in the special part     specs/Marked.antt   the marks of an order
 //     specs/*Laws.antt     what the proofs cite; OrdinaryLaws: why the rising pass is right; SpecialLaws: why a verdict is final;
 //                          WaitsLaws: why no other than a candidate is ready
 
-pub mod check;
-mod pass;
-mod ready;
-mod restore;
+pub mod ready;
+pub mod restore;
 pub mod slots;
-mod special;
 pub mod verdict;

@@ -1,7 +1,7 @@
 // Images of funnel tables and their check.
 use crate::funnels::table_of;
-use audit::check::Checked;
-use audit::check::check;
+use audit_calls::check::Checked;
+use audit_calls::check::check;
 use image_calls::calls::Loaded;
 use image_calls::calls::load_image;
 use image_calls::calls::write_image;

@@ -34,8 +34,8 @@ use Rattle.elastic_insert.specs.Insert.{insertOf, refusalReport, insertReport}
 use Rattle.elastic_query.specs.Query.{queryOf, queryReport}
 use Rattle.funnel.specs.declared.table.OpenAnswer.the-variants as opening
 use Rattle.funnel.specs.Calls.{Opens}
-use Rattle.audit.specs.declared.check.Checked.{Checked}
-use Rattle.audit.specs.Check.{Ended, ended, checkOf, reportOf}
+use Rattle.audit_calls.specs.declared.check.Checked.{Checked}
+use Rattle.audit_calls.specs.Check.{Ended, ended, checkOf, reportOf}
 use Rattle.cases.specs.OneBucket.{counts, table, zeros, Distinct, Fills, Given, Ends}
 use Rattle.cases.specs.FillLaws.{opens, fills}
 use Rattle.cases.specs.CheckLaws.{empty, only-second, twice}

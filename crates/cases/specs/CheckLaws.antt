@@ -9,14 +9,14 @@ use Rattle.funnel.specs.declared.table.FunnelTable.{FunnelTable}
 use Rattle.funnel.specs.declared.table.Search.the-variants as search
 use Rattle.funnel.specs.Dirty.{dirtyAt}
 use Rattle.funnel.specs.FreshLaws.{zero-at}
-use Rattle.audit.specs.declared.check.Checked.the-variants as checked
+use Rattle.audit_calls.specs.declared.check.Checked.the-variants as checked
 use Rattle.audit.specs.declared.slots.First.{First}
 use Rattle.audit.specs.declared.slots.First.the-variants.{At, Nothing}
 use Rattle.audit.specs.Greedy.{firstFrom, unplaced, ready, taken, greedyOf}
 use Rattle.audit.specs.FirstLaws.{first-all}
 use Rattle.audit.specs.ReadyLaws.{unplaced-vacant, ready-vacant, ready-marked, ready-by}
-use Rattle.audit.specs.Check.{Lent, ended, answerOf, endOf, takeAll, auditOf, checkOf}
-use Rattle.audit.specs.CheckLaws.{clean-vacant, check-audit}
+use Rattle.audit_calls.specs.Check.{Lent, ended, answerOf, endOf, takeAll, auditOf, checkOf}
+use Rattle.audit_calls.specs.CheckLaws.{clean-vacant, check-audit}
 use Rattle.cases.specs.OneBucket.{counts, table, zeros, ordinary, Given}
 use Rattle.cases.specs.OneBucketLaws.{is-plan, find-vacant, find-hit}
 

@@ -14,7 +14,7 @@ use Rattle.funnel.specs.declared.table.InsertAnswer.{InsertAnswer}
 use Rattle.funnel.specs.declared.table.InsertAnswer.the-variants as inserted
 use Rattle.funnel.specs.Calls.{Insertions, insertAnswerOf, insertedReport, placeValues}
 use Rattle.funnel.specs.Fresh.{State, fresh}
-use Rattle.audit.specs.Check.{Ended, reportOf}
+use Rattle.audit_calls.specs.Check.{Ended, reportOf}
 
 abbrev pub plan : FunnelPlan
 plan =

@@ -15,12 +15,12 @@ use Rattle.funnel.specs.declared.table.FunnelTable.{FunnelTable}
 use Rattle.funnel.specs.declared.table.Search.the-variants.{Vacant}
 use Rattle.funnel.specs.Path.{Ending, slotOf}
 use Rattle.funnel.specs.Search.{look, walkOf, searchOf, tablePath, findOf}
-use Rattle.audit.specs.declared.check.Checked.the-variants as checked
+use Rattle.audit_calls.specs.declared.check.Checked.the-variants as checked
 use Rattle.audit.specs.declared.slots.First.{First}
 use Rattle.audit.specs.declared.slots.First.the-variants.{At, Nothing}
 use Rattle.audit.specs.Greedy.{firstFrom, unplaced, ready}
-use Rattle.audit.specs.Check.{Lent, Ended, endOf, takeAll, auditOf, checkOf}
-use Rattle.audit.specs.CheckLaws.{check-audit}
+use Rattle.audit_calls.specs.Check.{Lent, Ended, endOf, takeAll, auditOf, checkOf}
+use Rattle.audit_calls.specs.CheckLaws.{check-audit}
 use Rattle.audit.specs.FirstLaws.{first-none}
 use Rattle.audit.specs.ReadyLaws.{ready-facts, unplaced-yes}
 use Rattle.demand.specs.Made.{Clean, Occupied, Before}

@@ -8,11 +8,11 @@ use Prim.Native.Nat.{ℕ, _≤_, _<_}
 use native.Mathlib.Omega.{arith}
 use lib.ListN.{length, getD, take, drop}
 use Rattle.funnel.specs.declared.table.FunnelTable.{FunnelTable}
-use Rattle.audit.specs.declared.check.Checked.{Checked}
-use Rattle.audit.specs.declared.check.Checked.the-variants as checked
+use Rattle.audit_calls.specs.declared.check.Checked.{Checked}
+use Rattle.audit_calls.specs.declared.check.Checked.the-variants as checked
 use Rattle.audit.specs.declared.slots.First.the-variants.{At}
 use Rattle.funnel.specs.Dirty.{dirtyAt}
-use Rattle.audit.specs.Check.{Lent, Ended, ended, checkOf}
+use Rattle.audit_calls.specs.Check.{Lent, Ended, ended, checkOf}
 use Rattle.audit.specs.Greedy.{Found}
 use Rattle.audit.specs.FirstLaws.{first-found}
 use Rattle.audit.specs.ReadyLaws.{unplaced-facts, unplaced-yes}

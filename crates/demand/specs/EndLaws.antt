@@ -12,13 +12,13 @@ use borrow.Author.Tests.{eqb-true, eq-eqb, ltb-true, ltb-false, leb-true, leb-fa
 use Rattle.funnel.specs.declared.table.FunnelTable.{FunnelTable}
 use Rattle.funnel.specs.PathLaws.{path-below}
 use Rattle.funnel.specs.Search.{tablePath}
-use Rattle.audit.specs.declared.check.Checked.the-variants as checked
+use Rattle.audit_calls.specs.declared.check.Checked.the-variants as checked
 use Rattle.audit.specs.declared.slots.First.{First}
 use Rattle.audit.specs.declared.slots.First.the-variants.{At, Nothing}
 use Rattle.audit.specs.Greedy.{firstFrom, unplaced, ready, Taken, greedyOf}
 use Rattle.funnel.specs.Dirty.{dirtyAt}
-use Rattle.audit.specs.Check.{Lent, Ended, ended, answerOf, endOf, takeAll, unlessDirty, auditOf, checkOf}
-use Rattle.audit.specs.CheckLaws.{check-audit, clean-vacant, clean-flag}
+use Rattle.audit_calls.specs.Check.{Lent, Ended, ended, answerOf, endOf, takeAll, unlessDirty, auditOf, checkOf}
+use Rattle.audit_calls.specs.CheckLaws.{check-audit, clean-vacant, clean-flag}
 use Rattle.audit.specs.FirstLaws.{first-none, first-all}
 use Rattle.audit.specs.ReadyLaws.{unplaced-vacant, unplaced-marked, unplaced-yes}
 use Rattle.funnel.specs.FreshLaws.{occupied-none}

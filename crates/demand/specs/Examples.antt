@@ -12,10 +12,10 @@ use Rattle.funnel.specs.declared.table.FunnelTable.{FunnelTable}
 use Rattle.funnel.specs.Path.{join, bucketFrom, levelsFrom, primaryFrom, pairsFrom, fallbackOf, pathOf}
 use Rattle.funnel.specs.Search.{walkOf, searchOf, findOf}
 use Rattle.funnel.specs.Insert.{insertBy, insertOf}
-use Rattle.audit.specs.declared.check.Checked.the-variants as checked
+use Rattle.audit_calls.specs.declared.check.Checked.the-variants as checked
 use Rattle.audit.specs.Greedy.{firstFrom, unplaced, ready, greedyOf}
 use Rattle.funnel.specs.Dirty.{dirtyAt}
-use Rattle.audit.specs.Check.{Ended, ended, endOf, takeAll, auditOf}
+use Rattle.audit_calls.specs.Check.{Ended, ended, endOf, takeAll, auditOf}
 
 abbrev plan : FunnelPlan
 plan =

@@ -2,8 +2,8 @@
 use crate::say::put_gate;
 use crate::say::put_identity;
 use crate::say::put_name;
-use audit::check::Checked;
-use audit::check::check;
+use audit_calls::check::Checked;
+use audit_calls::check::check;
 use funnel::table::FunnelTable;
 use funnel::table::Search;
 use funnel::table::SearchAnswer;

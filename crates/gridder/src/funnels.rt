@@ -4,7 +4,7 @@ ghost use mathlib.Core.Path.{_≡_};
 ghost use Rattle.gridder.specs.Answer.{reply};
 ghost use Prim.Native.Nat.{_+_, _≤_};
 ghost use lib.ListN.{length};
-ghost use Rattle.gridder.specs.Calls.{callGate, searchCall, left, countedIn, insertCall, openBlocksGate, openSaying, OpensBy, OpensLent};
+ghost use Rattle.gridder.specs.Calls.{callGate, searchCall, left, countedIn, insertCall, openBlocksGate, openSaying, OpensBy};
 ghost use Rattle.refusal.specs.Table.{numberOf, nameOf};
 ghost use Rattle.geometry.specs.declared.config.Gated.the-variants.{Passed};
 ghost use Rattle.lent.specs.Lent.{wordsOf, wordCount};
@@ -14,7 +14,6 @@ use crate::answer::say_gate;
 use crate::answer::say_insertion;
 use crate::answer::say_search;
 use crate::state::STATE_LENGTH;
-use crate::state::holds_funnel;
 use crate::state::read_counts;
 use crate::state::table_in;
 use crate::state::write_count;
@@ -37,24 +36,7 @@ use refusal::gate_name;
 use refusal::number;
 use words::clear::clear_bytes;
 
-// Where an identity is, or the vacancy where it would be put.
-#[no_mangle]
-pub extern "C" fn landovireph_funnel_search(
-    state: &[u8],
-    words: &[u8],
-    flags: &[u8],
-    identity: u64,
-    answer: &mut [u8],
-) -> u64
-    ensures { λ r. ⌜ reply r (now (answer .exit)) ≡ searchCall (now (state .entry)) (now (words .entry)) (now (flags .entry)) identity (now (answer .entry)) ⌝ }
-{
-    if holds_funnel(state) {
-        return search_in(state, words, flags, identity, answer);
-    }
-    number(Name::State)
-}
-
-fn search_in(state: &[u8], words: &[u8], flags: &[u8], identity: u64, answer: &mut [u8]) -> u64
+pub fn search_in(state: &[u8], words: &[u8], flags: &[u8], identity: u64, answer: &mut [u8]) -> u64
     requires { ⌜ holdsFunnel (now state) ≡ true ⌝ }
     ensures { λ r. ⌜ reply r (now (answer .exit)) ≡ searchCall (now (state .entry)) (now (words .entry)) (now (flags .entry)) identity (now (answer .entry)) ⌝ }
 {
@@ -89,24 +71,7 @@ pub fn call_gate(
     }
 }
 
-// The insertion of an identity.
-#[no_mangle]
-pub extern "C" fn landovireph_funnel_insert(
-    state: &mut [u8],
-    words: &mut [u8],
-    flags: &mut [u8],
-    identity: u64,
-    answer: &mut [u8],
-) -> u64
-    ensures { λ r. ⌜ left r (now (answer .exit)) (now (state .exit)) (wordsOf (now (words .exit))) (now (flags .exit)) ≡ insertCall (now (state .entry)) (now (words .entry)) (now (flags .entry)) identity (now (answer .entry)) ⌝ }
-{
-    if holds_funnel(state) {
-        return insert_in(state, words, flags, identity, answer);
-    }
-    number(Name::State)
-}
-
-fn insert_in(
+pub fn insert_in(
     state: &mut [u8],
     words: &mut [u8],
     flags: &mut [u8],
@@ -146,30 +111,8 @@ fn count_insertion(state: &mut [u8], done: Insertion, count: u64)
     write_count(state, count + 1);
 }
 
-// A fresh table: words and flags zeroed, its numbers in the state block.
-#[no_mangle]
-pub extern "C" fn landovireph_funnel_open(
-    n: u64,
-    e: u32,
-    seed: u64,
-    word_cap: u64,
-    state: &mut [u8],
-    words: &mut [u8],
-    flags: &mut [u8],
-    answer: &mut [u8],
-) -> u64
-    ensures { λ r. ⌜ OpensLent n e seed «word_cap» (now (state .entry)) (now (words .entry)) (now (flags .entry)) (now (answer .entry)) r (now (state .exit)) (now (words .exit)) (now (flags .exit)) (now (answer .exit)) ⌝ }
-{
-    let entries = word_count(words.len() as u64);
-    let slots = flags.len() as u64;
-    match open_blocks_gate(n, e, word_cap, entries, slots, state.len(), answer.len()) {
-        Gated::Refused(g) => refuse_open(state.len(), answer, g),
-        Gated::Passed => open_in(n, e, seed, word_cap, state, words, flags, answer),
-    }
-}
-
 // The tests of an opening, and the lengths of both blocks.
-fn open_blocks_gate(
+pub fn open_blocks_gate(
     n: u64,
     e: u32,
     cap: u64,
@@ -208,7 +151,7 @@ pub fn refuse_open(state: usize, answer: &mut [u8], gate: Gate) -> u64
     say_gate(answer, gate)
 }
 
-fn open_in(
+pub fn open_in(
     n: u64,
     e: u32,
     seed: u64,

@@ -7,7 +7,6 @@ ghost use Rattle.gridder.specs.State.{holdsFunnel};
 use crate::answer::say_gate;
 use crate::answer::say_placement;
 use crate::funnels::call_gate;
-use crate::state::holds_funnel;
 use crate::state::read_counts;
 use crate::state::table_in;
 use crate::state::write_count;
@@ -16,28 +15,8 @@ use geometry::config::Gated;
 use lent::place_all::place_all;
 use lent::word::word_count;
 use refusal::Gate;
-use refusal::Name;
-use refusal::number;
 
-// The insertion of many identities, with the slot of each, up to the first refusal. The gate runs once.
-#[no_mangle]
-pub extern "C" fn landovireph_funnel_place_all(
-    state: &mut [u8],
-    words: &mut [u8],
-    flags: &mut [u8],
-    identities: &[u8],
-    slots: &mut [u8],
-    answer: &mut [u8],
-) -> u64
-    ensures { λ r. ⌜ allLeft r (now (answer .exit)) (now (state .exit)) (wordsOf (now (words .exit))) (now (flags .exit)) (wordsOf (now (slots .exit))) ≡ placeCall (now (state .entry)) (now (words .entry)) (now (flags .entry)) (now (identities .entry)) (now (slots .entry)) (now (answer .entry)) ⌝ }
-{
-    if holds_funnel(state) {
-        return place_in(state, words, flags, identities, slots, answer);
-    }
-    number(Name::State)
-}
-
-fn place_in(
+pub fn place_in(
     state: &mut [u8],
     words: &mut [u8],
     flags: &mut [u8],

@@ -13,9 +13,9 @@ use Rattle.geometry.specs.declared.config.Gated.{Gated}
 use Rattle.geometry.specs.declared.config.Gated.the-variants.{Passed, Refused}
 use Rattle.funnel.specs.Calls.{gateThen}
 use Rattle.funnel.specs.declared.table.FunnelTable.{FunnelTable}
-use Rattle.audit.specs.Check.{Ended, auditOf, checkGate, reportOf}
-use Rattle.audit.specs.declared.check.Checked.{Checked}
-use Rattle.audit.specs.declared.check.Checked.the-variants as checked
+use Rattle.audit_calls.specs.Check.{Ended, auditOf, checkGate, reportOf}
+use Rattle.audit_calls.specs.declared.check.Checked.{Checked}
+use Rattle.audit_calls.specs.declared.check.Checked.the-variants as checked
 use Rattle.lent.specs.Lent.{wordsOf, wordCount}
 use Rattle.gridder.specs.Answer.{answerLength, Field, field, slotAt, placedAt, says, saying}
 use Rattle.gridder.specs.State.{holdsFunnel, tableIn, countsIn}

@@ -17,9 +17,9 @@ use Rattle.geometry.specs.declared.config.Gated.the-variants.{Passed, Refused}
 use Rattle.funnel.specs.CallLaws.{valid-gate}
 use Rattle.funnel.specs.Calls.{gateThen, tableGate}
 use Rattle.funnel.specs.declared.table.FunnelTable.{FunnelTable}
-use Rattle.audit.specs.Check.{ended, auditOf, checkGate, reportOf, Lent}
-use Rattle.audit.specs.CheckLaws.{gate-lent}
-use Rattle.audit.specs.declared.check.Checked.{Checked}
+use Rattle.audit_calls.specs.Check.{ended, auditOf, checkGate, reportOf, Lent}
+use Rattle.audit_calls.specs.CheckLaws.{gate-lent}
+use Rattle.audit_calls.specs.declared.check.Checked.{Checked}
 use Rattle.lent.specs.Lent.{wordsOf, wordCount}
 use Rattle.lent.specs.LentLaws.{count-some}
 use Rattle.lent_check.specs.Valid.{CheckLent}

@@ -2,20 +2,19 @@
 ghost use mathlib.Core.Bool.{true};
 ghost use mathlib.Core.Path.{_≡_};
 ghost use lib.ListN.{length};
-ghost use Rattle.audit.specs.Check.{reportOf};
+ghost use Rattle.audit_calls.specs.Check.{reportOf};
 ghost use Rattle.gridder.specs.Answer.{says, reply};
 ghost use Rattle.gridder.specs.State.{holdsFunnel};
 ghost use Rattle.lent.specs.Lent.{wordsOf};
 ghost use Rattle.gridder_check.specs.Check.{checkCallGate, checkedFields, checkLeft, checkCall};
-use audit::check::Checked;
-use audit::check::check_gate;
+use audit_calls::check::Checked;
+use audit_calls::check::check_gate;
 use funnel::table::FunnelTable;
 use geometry::config::Gated;
 use gridder::answer::ANSWER_LENGTH;
 use gridder::answer::PLACED;
 use gridder::answer::SLOT;
 use gridder::answer::say_gate;
-use gridder::state::holds_funnel;
 use gridder::state::read_counts;
 use gridder::state::table_in;
 use lent::word::word_count;
@@ -27,25 +26,7 @@ use refusal::number;
 use words::bytes::write64;
 use words::clear::clear_bytes;
 
-// The check of a table: whether some order of insertions makes it. Marks and order are lent, n entries each.
-#[no_mangle]
-pub extern "C" fn landovireph_funnel_check(
-    state: &[u8],
-    words: &[u8],
-    flags: &[u8],
-    marks: &mut [u8],
-    order: &mut [u8],
-    answer: &mut [u8],
-) -> u64
-    ensures { λ r. ⌜ checkLeft r (now (answer .exit)) (now (marks .exit)) (wordsOf (now (order .exit))) ≡ checkCall (now (state .entry)) (now (words .entry)) (now (flags .entry)) (now (marks .entry)) (now (order .entry)) (now (answer .entry)) ⌝ }
-{
-    if holds_funnel(state) {
-        return check_in(state, words, flags, marks, order, answer);
-    }
-    number(Name::State)
-}
-
-fn check_in(
+pub fn check_in(
     state: &[u8],
     words: &[u8],
     flags: &[u8],

@@ -7,13 +7,12 @@ ghost use Rattle.elastic.specs.State.{freshOf};
 ghost use Rattle.lent.specs.Lent.{wordsOf};
 ghost use Rattle.gridder.specs.Answer.{reply};
 ghost use Rattle.gridder.specs.Calls.{left};
-ghost use Rattle.gridder_elastic.specs.Calls.{callGate, queryCall, countedIn, insertCall, openBlocksGate, openCall, limitsOf, Fresh};
+ghost use Rattle.gridder_elastic.specs.Calls.{callGate, queryCall, countedIn, insertCall, openBlocksGate, Fresh};
 ghost use Rattle.gridder_elastic.specs.State.{holdsElastic};
 use crate::insert::place;
 use crate::query::look;
 use crate::say::say_insert;
 use crate::say::say_query;
-use crate::state::holds_elastic;
 use crate::state::read_counts;
 use crate::state::state_in;
 use crate::state::write_counts;
@@ -28,33 +27,13 @@ use geometry::config::max_insertions;
 use geometry::elastic::ElasticPlan;
 use gridder::answer::ANSWER_LENGTH;
 use gridder::answer::say_gate;
-use gridder::funnels::refuse_open;
 use gridder::state::STATE_LENGTH;
 use lent::word::word_count;
 use refusal::Gate;
-use refusal::Name;
-use refusal::number;
 use words::clear::clear_bytes;
 use words::power::ceil_log2;
 
-// Where an identity is.
-#[no_mangle]
-pub extern "C" fn landovireph_elastic_query(
-    state: &[u8],
-    words: &[u8],
-    flags: &[u8],
-    identity: u64,
-    answer: &mut [u8],
-) -> u64
-    ensures { λ r. ⌜ reply r (now (answer .exit)) ≡ queryCall (now (state .entry)) (now (words .entry)) (now (flags .entry)) identity (now (answer .entry)) ⌝ }
-{
-    if holds_elastic(state) {
-        return query_in(state, words, flags, identity, answer);
-    }
-    number(Name::State)
-}
-
-fn query_in(state: &[u8], words: &[u8], flags: &[u8], identity: u64, answer: &mut [u8]) -> u64
+pub fn query_in(state: &[u8], words: &[u8], flags: &[u8], identity: u64, answer: &mut [u8]) -> u64
     requires { ⌜ holdsElastic (now state) ≡ true ⌝ }
     ensures { λ r. ⌜ reply r (now (answer .exit)) ≡ queryCall (now (state .entry)) (now (words .entry)) (now (flags .entry)) identity (now (answer .entry)) ⌝ }
 {
@@ -83,24 +62,7 @@ fn call_gate(st: State, counts: &[u64; 32], words: usize, flags: usize, answer: 
     }
 }
 
-// The insertion of an identity.
-#[no_mangle]
-pub extern "C" fn landovireph_elastic_insert(
-    state: &mut [u8],
-    words: &mut [u8],
-    flags: &mut [u8],
-    identity: u64,
-    answer: &mut [u8],
-) -> u64
-    ensures { λ r. ⌜ left r (now (answer .exit)) (now (state .exit)) (wordsOf (now (words .exit))) (now (flags .exit)) ≡ insertCall (now (state .entry)) (now (words .entry)) (now (flags .entry)) identity (now (answer .entry)) ⌝ }
-{
-    if holds_elastic(state) {
-        return insert_in(state, words, flags, identity, answer);
-    }
-    number(Name::State)
-}
-
-fn insert_in(
+pub fn insert_in(
     state: &mut [u8],
     words: &mut [u8],
     flags: &mut [u8],
@@ -141,39 +103,8 @@ fn count_insertion(state: &mut [u8], said: InsertAnswer, count: u64, counts: &[u
     }
 }
 
-// A fresh table: words and flags zeroed, its numbers in the state block.
-#[no_mangle]
-pub extern "C" fn landovireph_elastic_open(
-    n: u64,
-    e: u32,
-    seed: u64,
-    c: u64,
-    word_cap: u64,
-    search_cap: u64,
-    position_cap: u64,
-    state: &mut [u8],
-    words: &mut [u8],
-    flags: &mut [u8],
-    answer: &mut [u8],
-) -> u64
-    ensures { λ r. ⌜ left r (now (answer .exit)) (now (state .exit)) (wordsOf (now (words .exit))) (now (flags .exit)) ≡ openCall n e seed (limitsOf c «word_cap» «search_cap» «position_cap») (now (state .entry)) (now (words .entry)) (now (flags .entry)) (now (answer .entry)) ⌝ }
-{
-    let limits = Limits {
-        probe_budget_c: c,
-        range_word_cap: word_cap,
-        uniform_search_probe_cap: search_cap,
-        hit_query_position_cap: position_cap,
-    };
-    let entries = word_count(words.len() as u64) as usize;
-    let slots = flags.len();
-    match open_blocks_gate(n, e, limits, entries, slots, state.len(), answer.len()) {
-        Gated::Refused(g) => refuse_open(state.len(), answer, g),
-        Gated::Passed => open_in(fresh(n, e, seed, limits), state, words, flags, answer),
-    }
-}
-
 // The base's tests of an opening, and the lengths of both blocks.
-fn open_blocks_gate(
+pub fn open_blocks_gate(
     n: u64,
     e: u32,
     limits: Limits,
@@ -199,7 +130,7 @@ fn open_blocks_gate(
 }
 
 // The state of a fresh table.
-fn fresh(n: u64, e: u32, seed: u64, limits: Limits) -> State
+pub fn fresh(n: u64, e: u32, seed: u64, limits: Limits) -> State
     requires { ⌜ 2 ≤ n ⌝ }
     ensures { λ r. ⌜ r ≡ freshOf n e seed limits ⌝ }
 {
@@ -216,7 +147,7 @@ fn fresh(n: u64, e: u32, seed: u64, limits: Limits) -> State
     }
 }
 
-fn open_in(
+pub fn open_in(
     st: State,
     state: &mut [u8],
     words: &mut [u8],

@@ -15,7 +15,6 @@ use geometry::config::Gated;
 use gridder::answer::ANSWER_LENGTH;
 use gridder::answer::say_gate;
 use gridder::funnels::call_gate;
-use gridder::state::holds_funnel;
 use gridder::state::read_counts;
 use gridder::state::table_in;
 use gridder::state::write_count;
@@ -23,27 +22,8 @@ use image_calls::calls::write_gate;
 use image_calls::loader::Filled;
 use lent::word::word_count;
 use refusal::Gate;
-use refusal::Name;
-use refusal::number;
 
-// A table from an image of it.
-#[no_mangle]
-pub extern "C" fn landovireph_funnel_load(
-    state: &mut [u8],
-    words: &mut [u8],
-    flags: &mut [u8],
-    image: &[u8],
-    answer: &mut [u8],
-) -> u64
-    ensures { λ r. ⌜ left r (now (answer .exit)) (now (state .exit)) (wordsOf (now (words .exit))) (now (flags .exit)) ≡ loadCall (now (state .entry)) (now (words .entry)) (now (flags .entry)) (now (image .entry)) (now (answer .entry)) ⌝ }
-{
-    if holds_funnel(state) {
-        return load_in(state, words, flags, image, answer);
-    }
-    number(Name::State)
-}
-
-fn load_in(
+pub fn load_in(
     state: &mut [u8],
     words: &mut [u8],
     flags: &mut [u8],
@@ -89,25 +69,7 @@ fn count_loaded(state: &mut [u8], filled: Filled)
     }
 }
 
-// The image of a table; bytes past it stay as they were.
-#[no_mangle]
-pub extern "C" fn landovireph_funnel_write(
-    state: &[u8],
-    words: &[u8],
-    flags: &[u8],
-    label: &[u8],
-    image: &mut [u8],
-    answer: &mut [u8],
-) -> u64
-    ensures { λ r. ⌜ sent r (now (answer .exit)) (now (image .exit)) ≡ writeCall (now (state .entry)) (now (words .entry)) (now (flags .entry)) (now (label .entry)) (now (image .entry)) (now (answer .entry)) ⌝ }
-{
-    if holds_funnel(state) {
-        return write_in(state, words, flags, label, image, answer);
-    }
-    number(Name::State)
-}
-
-fn write_in(
+pub fn write_in(
     state: &[u8],
     words: &[u8],
     flags: &[u8],

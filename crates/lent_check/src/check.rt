@@ -1,13 +1,13 @@
 // The check of a table that passed its gate, as in audit's check.rt, over words and an order lent as bytes.
 ghost use mathlib.Core.Path.{_≡_};
-ghost use Rattle.audit.specs.Check.{ended, takeAll, auditOf};
+ghost use Rattle.audit_calls.specs.Check.{ended, takeAll, auditOf};
 ghost use Rattle.lent.specs.Lent.{wordsOf};
 ghost use Rattle.lent_check.specs.Valid.{CheckLent};
 use crate::pass::take_members;
 use crate::slots::first_dirty;
-use audit::check::Checked;
 use audit::slots::First;
 use audit::slots::first_unplaced;
+use audit_calls::check::Checked;
 use funnel::table::FunnelTable;
 
 // The check of a state that passed.

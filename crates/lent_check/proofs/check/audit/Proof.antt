@@ -1,6 +1,6 @@
 -- `lent_check::check::audit` meets its contract. Assumes nothing.
 use mathlib.Core.Path.{_∙_}
-use Rattle.audit.specs.CheckLaws.{audit-dirty, audit-clean}
+use Rattle.audit_calls.specs.CheckLaws.{audit-dirty, audit-clean}
 use borrow.Author.Needs.{needs}
 use Rattle.lent_check.proofs.check.audit.Statement.{statement}
 use Rattle.lent_check.proofs.check.audit.Tie as tie

@@ -1,5 +1,5 @@
 -- `lent_check::check::place_members` meets its contract. Assumes nothing.
-use Rattle.audit.specs.CheckLaws.{take-ends}
+use Rattle.audit_calls.specs.CheckLaws.{take-ends}
 use borrow.Author.Needs.{needs}
 use Rattle.lent_check.proofs.check.place_members.Statement.{statement}
 use Rattle.lent_check.proofs.check.place_members.Tie as tie
