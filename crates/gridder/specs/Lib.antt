@@ -2,9 +2,4 @@ pub mod State
 pub mod StateLaws
 pub mod Answer
 pub mod AnswerLaws
-pub mod Calls
-pub mod CallLaws
-pub mod OpenLaws
 pub mod BlockLaws
-pub mod Place
-pub mod PlaceLaws

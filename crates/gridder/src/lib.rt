@@ -1,8 +1,8 @@
-// The calls for C: funnel tables on numbers and byte slices. Carries request 1 of the changes after the base.
+// The two blocks of the calls for C: the state of a table, and what a call has to say. Carries request 1 of the changes after the base.
 //
-// Each call tests what it is lent, requires nothing, answers the number of its refusal (0 where there is none), and writes what more
-// it has to say to the answer block. Words are lent as little-endian bytes, eight to a word, and crate `lent` walks the base's
-// path over them; no table is copied.
+// A call tests what it is lent, requires nothing, answers the number of its refusal (0 where there is none), and writes what more
+// it has to say to the answer block. The calls are in `landovireph`; what they do past the test of the state block is in `gridder_calls`,
+// `gridder_check`, `gridder_images` and `gridder_elastic`.
 //
 // Every number in a block is a little-endian word of eight bytes. The state block, 2,048 bytes, of a funnel table:
 //
@@ -25,18 +25,12 @@
 //     56  1 where a search met the identity, 0 where it met a vacancy
 //     64  placed: the identities that have their slot
 //
-// and kept for the calls to come: 72 position, 80 mapped, 88 gap, 96 byte place, 104 label offset, 112 label length,
-// 120 image length.
+// and of the other calls: 72 position, 80 mapped, 88 gap, 96 byte place, 104 label offset, 112 label length, 120 image length.
 //
 //     state.rt    the state block
 //     answer.rt   the answer block
-//     funnels.rt  the exported calls: open, search, insert
-//     placing.rt  the exported call that places many identities
 //
-// specs/State.antt and Answer.antt say what the blocks hold, Calls.antt and Place.antt what each
-// call answers and leaves.
+// specs/State.antt and Answer.antt say what the blocks hold.
 
 pub mod answer;
-pub mod funnels;
-pub mod placing;
 pub mod state;

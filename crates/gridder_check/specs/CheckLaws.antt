@@ -24,7 +24,7 @@ use Rattle.lent.specs.Lent.{wordsOf, wordCount}
 use Rattle.lent.specs.LentLaws.{count-some}
 use Rattle.lent_check.specs.Valid.{CheckLent}
 use Rattle.gridder.specs.Answer.{answerLength, says, saying, Reply, reply}
-use Rattle.gridder.specs.CallLaws.{lent-valid}
+use Rattle.gridder_calls.specs.CallLaws.{lent-valid}
 use Rattle.gridder.specs.State.{holdsFunnel, tableIn, countsIn}
 use Rattle.gridder_check.specs.Check.{checkCallGate, checkedFields, checkLeft, checkBy, checkCall}
 

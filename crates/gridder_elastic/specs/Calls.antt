@@ -20,7 +20,7 @@ use Rattle.elastic.specs.declared.state.Limits.{Limits}
 use Rattle.elastic.specs.declared.state.State.{State}
 use Rattle.lent.specs.Lent.{wordsOf, wordCount}
 use Rattle.gridder.specs.Answer.{answerLength, says, saying, Reply, reply}
-use Rattle.gridder.specs.Calls.{Left, left, openSaying}
+use Rattle.gridder_calls.specs.Calls.{Left, left, openSaying}
 use Rattle.gridder.specs.State.{stateLength}
 use Rattle.gridder_elastic.specs.Say.{insertFields, queryFields}
 use Rattle.gridder_elastic.specs.State.{holdsElastic, stateIn, countsIn, elasticBlock, withCountsIn}

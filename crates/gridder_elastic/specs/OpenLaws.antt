@@ -23,7 +23,7 @@ use Rattle.lent.specs.Lent.{wordsOf, wordCount}
 use Rattle.lent.specs.LentLaws.{count-some, words-zeros}
 use Rattle.gridder.specs.Answer.{answerLength, says, Reply, reply}
 use Rattle.gridder.specs.AnswerLaws.{says-none}
-use Rattle.gridder.specs.Calls.{left, openSaying}
+use Rattle.gridder_calls.specs.Calls.{left, openSaying}
 use Rattle.gridder.specs.State.{stateLength}
 use Rattle.gridder_elastic.specs.Calls.{openBlocksGate, openLeft, openCall, Fresh}
 use Rattle.gridder_elastic.specs.State.{elasticBlock}

@@ -6,7 +6,7 @@ ghost use lib.ListN.{length};
 ghost use Rattle.elastic.specs.State.{freshOf};
 ghost use Rattle.lent.specs.Lent.{wordsOf};
 ghost use Rattle.gridder.specs.Answer.{reply};
-ghost use Rattle.gridder.specs.Calls.{left};
+ghost use Rattle.gridder_calls.specs.Calls.{left};
 ghost use Rattle.gridder_elastic.specs.Calls.{callGate, queryCall, countedIn, insertCall, openBlocksGate, Fresh};
 ghost use Rattle.gridder_elastic.specs.State.{holdsElastic};
 use crate::insert::place;

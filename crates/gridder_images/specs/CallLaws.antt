@@ -26,7 +26,7 @@ use Rattle.image_calls.specs.declared.writer.Written.{Written}
 use Rattle.lent.specs.Lent.{wordsOf, wordCount}
 use Rattle.lent.specs.LentLaws.{count-some}
 use Rattle.gridder.specs.Answer.{answerLength, says, saying, Reply, reply}
-use Rattle.gridder.specs.Calls.{callGate, stateGate, left}
+use Rattle.gridder_calls.specs.Calls.{callGate, stateGate, left}
 use Rattle.gridder.specs.State.{holdsFunnel, tableIn, countsIn, withCountIn}
 use Rattle.gridder_images.specs.Calls.{filledIn, loadLeft, loadCall, sent, writeCallGate, writeStateGate, writeLeft, writeCall}
 use Rattle.gridder_images.specs.Say.{filledFields, filledNumber, writtenFields}

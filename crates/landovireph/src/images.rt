@@ -1,6 +1,6 @@
 // The calls for C on images of funnel tables. Each requires nothing.
 ghost use mathlib.Core.Path.{_≡_};
-ghost use Rattle.gridder.specs.Calls.{left};
+ghost use Rattle.gridder_calls.specs.Calls.{left};
 ghost use Rattle.gridder_images.specs.Calls.{loadCall, sent, writeCall};
 ghost use Rattle.lent.specs.Lent.{wordsOf};
 use gridder::state::holds_funnel;

@@ -1,5 +1,5 @@
 // The calls for C, all that `liblandovireph.a` gives. Each tests whether its state block holds a table of its kind, and hands on to the
-// crates that do the work: `gridder` (blocks, funnel tables), `gridder_images`, `gridder_check`, `gridder_elastic`. They stand in one crate
+// crates that do the work: `gridder_calls` (funnel tables), `gridder_images`, `gridder_check`, `gridder_elastic`. They stand in one crate
 // because an archive has the functions of one crate, and in so thin a one because making the archive proves it again.
 //
 // The layout of the blocks is at the head of `gridder`'s lib.rt; `include/landovireph.h` is the manual.

@@ -1,6 +1,6 @@
 -- `landovireph::funnels::landovireph_funnel_search` meets its contract. By whether the block holds a state. Assumes nothing.
 use mathlib.Core.Path.{sym, _∙_}
-use Rattle.gridder.specs.CallLaws.{search-unheld}
+use Rattle.gridder_calls.specs.CallLaws.{search-unheld}
 use borrow.Author.Needs.{needs}
 use Rattle.landovireph.proofs.funnels.landovireph_funnel_search.Statement.{statement}
 use Rattle.landovireph.proofs.funnels.landovireph_funnel_search.Tie as tie
