@@ -22,25 +22,6 @@ use Rattle.audit.specs.Greedy.{firstFrom, unplaced, taken, greedyOf}
 use Rattle.funnel.specs.Dirty.{dirtyAt}
 use Rattle.audit_calls.specs.Check.{Ended, ended, answerOf, endOf, takeAll, auditOf, checkGate, checkOf, Lent}
 
--- ---- a dirty slot
-
-module _ (words flags : List ℕ) (s : ℕ) where
-  pub dirty-word : getD flags s 0 ≡ 0 → (getD words s 0 ≡ 0 → ⊥) → dirtyAt words flags s ≡ true
-  unfolding dirtyAt
-  dirty-word f w = rw (eq-eqb _ _ f, ne-eqb _ _ w)
-
-  pub dirty-flag : (getD flags s 0 ≡ 0 → ⊥) → 1 < getD flags s 0 → dirtyAt words flags s ≡ true
-  unfolding dirtyAt
-  dirty-flag f l = rw (ne-eqb _ _ f, lt-ltb _ _ l)
-
-  pub clean-vacant : getD flags s 0 ≡ 0 → getD words s 0 ≡ 0 → dirtyAt words flags s ≡ false
-  unfolding dirtyAt
-  clean-vacant f w = rw (eq-eqb _ _ f, eq-eqb _ _ w)
-
-  pub clean-flag : (getD flags s 0 ≡ 0 → ⊥) → getD flags s 0 ≤ 1 → dirtyAt words flags s ≡ false
-  unfolding dirtyAt
-  clean-flag f l = rw (ne-eqb _ _ f, le-ltb _ _ l)
-
 -- ---- the endings
 
 module _ (table : FunnelTable) (counts words flags order : List ℕ) where

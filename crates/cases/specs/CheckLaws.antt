@@ -16,7 +16,8 @@ use Rattle.audit.specs.Greedy.{firstFrom, unplaced, ready, taken, greedyOf}
 use Rattle.audit.specs.FirstLaws.{first-all}
 use Rattle.audit.specs.ReadyLaws.{unplaced-vacant, ready-vacant, ready-marked, ready-by}
 use Rattle.audit_calls.specs.Check.{Lent, ended, answerOf, endOf, takeAll, auditOf, checkOf}
-use Rattle.audit_calls.specs.CheckLaws.{clean-vacant, check-audit}
+use Rattle.funnel.specs.DirtyLaws.{clean-vacant}
+use Rattle.audit_calls.specs.CheckLaws.{check-audit}
 use Rattle.cases.specs.OneBucket.{counts, table, zeros, ordinary, Given}
 use Rattle.cases.specs.OneBucketLaws.{is-plan, find-vacant, find-hit}
 

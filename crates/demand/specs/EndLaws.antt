@@ -18,7 +18,8 @@ use Rattle.audit.specs.declared.slots.First.the-variants.{At, Nothing}
 use Rattle.audit.specs.Greedy.{firstFrom, unplaced, ready, Taken, greedyOf}
 use Rattle.funnel.specs.Dirty.{dirtyAt}
 use Rattle.audit_calls.specs.Check.{Lent, Ended, ended, answerOf, endOf, takeAll, unlessDirty, auditOf, checkOf}
-use Rattle.audit_calls.specs.CheckLaws.{check-audit, clean-vacant, clean-flag}
+use Rattle.funnel.specs.DirtyLaws.{clean-vacant, clean-flag}
+use Rattle.audit_calls.specs.CheckLaws.{check-audit}
 use Rattle.audit.specs.FirstLaws.{first-none, first-all}
 use Rattle.audit.specs.ReadyLaws.{unplaced-vacant, unplaced-marked, unplaced-yes}
 use Rattle.funnel.specs.FreshLaws.{occupied-none}

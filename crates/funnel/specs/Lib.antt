@@ -1,6 +1,7 @@
 pub mod CallLaws
 pub mod Calls
 pub mod Dirty
+pub mod DirtyLaws
 pub mod Every
 pub mod EveryLaws
 pub mod Examples

@@ -1,4 +1,4 @@
-// The exported calls on funnel tables. Each requires nothing.
+// The calls on funnel tables, for a state block that holds one; an opening for any.
 ghost use mathlib.Core.Bool.{true};
 ghost use mathlib.Core.Path.{_≡_};
 ghost use Rattle.gridder.specs.Answer.{reply};
@@ -12,8 +12,6 @@ ghost use Rattle.gridder.specs.State.{holdsFunnel};
 use funnel::table::FunnelTable;
 use funnel::table::Insertion;
 use funnel_calls::calls::open_gate;
-use funnel_calls::calls::open_gate;
-use funnel_calls::calls::table_gate;
 use funnel_calls::calls::table_gate;
 use geometry::config::Gated;
 use geometry::funnel::FunnelPlanned;

@@ -1,4 +1,4 @@
-// The exported placement of many identities. It requires nothing.
+// The placement of many identities, for a state block that holds a funnel table.
 ghost use mathlib.Core.Bool.{true};
 ghost use mathlib.Core.Path.{_≡_};
 ghost use Rattle.gridder_calls.specs.Place.{roomFor, placeCallGate, allLeft, placeCall};

@@ -1,4 +1,4 @@
-// The exported calls on elastic tables. Each requires nothing.
+// The calls on elastic tables, for a state block that holds one; an opening for any.
 ghost use mathlib.Core.Bool.{true};
 ghost use mathlib.Core.Path.{_≡_};
 ghost use Prim.Native.Nat.{_≤_};

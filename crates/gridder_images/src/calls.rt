@@ -1,4 +1,4 @@
-// The exported calls on images of funnel tables. Each requires nothing.
+// Loading and writing, for a state block that holds a funnel table.
 ghost use mathlib.Core.Bool.{true};
 ghost use mathlib.Core.Path.{_≡_};
 ghost use lib.ListN.{length};

@@ -9,7 +9,6 @@ use funnel::table::FunnelTable;
 use funnel::table::Insertion;
 use funnel::table::Search;
 use funnel::table::slot_of;
-use funnel::table::slot_of;
 use words::bytes::write64;
 
 // The insertion of an identity into the table with another count.

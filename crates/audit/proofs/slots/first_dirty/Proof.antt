@@ -4,7 +4,7 @@ use native.Mathlib.Omega.{arith}
 use mathlib.Core.Path.{_∙_}
 use borrow.Author.Needs.{needs}
 use Rattle.funnel.specs.Dirty.{dirtyAt}
-use Rattle.audit.specs.CheckLaws.{dirty-word, dirty-flag, clean-vacant, clean-flag}
+use Rattle.funnel.specs.DirtyLaws.{dirty-word, dirty-flag, clean-vacant, clean-flag}
 use Rattle.audit.specs.FirstLaws.{Passed, passed-none, passed-at, passed-more, passed-end, from-zero}
 use Rattle.audit.proofs.slots.first_dirty.Statement.{statement}
 use Rattle.audit.proofs.slots.first_dirty.Tie as tie

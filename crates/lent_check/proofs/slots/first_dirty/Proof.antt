@@ -3,7 +3,7 @@ use Prim.Native.Nat.{_-_}
 use native.Mathlib.Omega.{arith}
 use mathlib.Core.Path.{sym, _∙_}
 use Rattle.funnel.specs.Dirty.{dirtyAt}
-use Rattle.audit_calls.specs.CheckLaws.{dirty-word, dirty-flag, clean-vacant, clean-flag}
+use Rattle.funnel.specs.DirtyLaws.{dirty-word, dirty-flag, clean-vacant, clean-flag}
 use Rattle.audit.specs.FirstLaws.{Passed, passed-none, passed-at, passed-more, passed-end, from-zero}
 use Rattle.lent.specs.Lent.{wordsOf}
 use Rattle.lent_check.proofs.slots.first_dirty.Statement.{statement}
