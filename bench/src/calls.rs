@@ -197,6 +197,15 @@ impl Funnel {
         }
     }
 
+    /// Stores identities at given slots, whatever a table would do.
+    pub fn store(&mut self, members: &[(usize, u64)]) {
+        for &(slot, identity) in members {
+            self.words[slot] = identity;
+            self.flags[slot] = 1;
+        }
+        self.state[4] = members.len() as u64;
+    }
+
     pub fn insert(&mut self, identity: u64) -> bool {
         unsafe {
             bench_insert(

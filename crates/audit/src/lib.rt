@@ -6,24 +6,29 @@
 // search of the funnel crate.
 //
 //     0              slots below n - s: ordinary               n - s    primary, fallback     n
-//     | one rising pass: a slot depends on smaller ones only   | each turn from the start on  |
-//     | then: a verdict on each special slot, above the mark   |                              |
+//     | one rising pass: a slot depends on smaller ones only   | the smallest candidate first |
+//     | then: who waits on whom, and the candidates            |                              |
 //
 // An image whose members are all ordinary costs one search for each and nothing else. No placement in the special part changes
-// what the ordinary part of a path says, so that part is read once for each special member: the dead are not looked at again,
-// and the others by their special slots alone. That the answer means what it should
+// what the ordinary part of a path says, so that part is read once for each special member: the dead are not looked at again. A
+// live one is looked at by its special slots alone, and again only when the slot that its search ended at is placed: every look
+// moves that end on along a path of a few slots, so no image costs more than a few looks for each member. The lists for that lie
+// in the ordinary marks (crate `waiting`), which are made again from the order at the end. That the answer means what it should
 // (accepted exactly if some order makes the image) is proved in the crate `demand`, over the definitions alone.
 //
 //     check.rt   the call, its gate and its answer: Accepted, Disorder, Dirty, or a refusal 1 to 7
 //     pass.rt    the two passes
 //     ready.rt   whether a slot is ready
-//     verdict.rt which special slots are live, and where that is kept
+//     verdict.rt which special slots are live, and their queue
 //     special.rt the next special slot that is ready
+//     restore.rt the marks made again
 //     slots.rt   the first dirty slot, the first that is left
 //
 //     specs/Greedy.antt    the greedy order          specs/Check.antt   the check, its gate, its endings
-//     specs/Special.antt   a path's two parts        specs/Verdicts.antt   the marks that hold verdicts
-//     specs/*Laws.antt     what the proofs cite; OrdinaryLaws: why the rising pass is right; SpecialLaws: why a verdict is final
+//     specs/Special.antt   a path's two parts        specs/Verdicts.antt   the verdicts, given and queued
+//     specs/Waits.antt     the turns in the special part     specs/Marked.antt   the marks of an order
+//     specs/*Laws.antt     what the proofs cite; OrdinaryLaws: why the rising pass is right; SpecialLaws: why a verdict is final;
+//                          WaitsLaws: why no other than a candidate is ready
 
 pub mod check;
 mod pass;

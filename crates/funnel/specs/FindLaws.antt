@@ -13,7 +13,7 @@ use Rattle.funnel.specs.declared.table.Search.the-variants.{Full}
 use Rattle.funnel.specs.Path.{Path, join, levelsFrom, primaryFrom, fallbackOf, pathOf, primaryStart, fallbackStart}
 use Rattle.funnel.specs.PathLaws.{levels-length, primary-length}
 use Rattle.funnel.specs.PlanLaws.{primary-start}
-use Rattle.funnel.specs.Search.{searchOf, findOf, findUpTo}
+use Rattle.funnel.specs.Search.{searchOf, findOf}
 use Rattle.funnel.specs.SearchLaws.{resume, search-join, search-full}
 use Rattle.funnel.specs.Valid.{Valid, SpecialRoom}
 
@@ -59,20 +59,6 @@ module _ (table : FunnelTable) (counts words flags : List ℕ) (identity : ℕ) 
 
   abbrev pub fallbackPart : ℕ → Path
   fallbackPart start = fallbackOf (table .plan) start (table .seed) (table .«word_cap») identity
-
-  -- an answer by whether the search stops where the ordinary part ends
-  pub stops : (stop : Bool) (r : Search) → stop ≡ true → r ≡ searchOf words flags identity levelsPart 0 → r ≡ findUpTo stop table counts words flags identity
-  unfolding findUpTo
-  stops stop r e f = rw e f
-
-  pub goes : (stop : Bool) (r : Search) → stop ≡ false → r ≡ findOf table counts words flags identity → r ≡ findUpTo stop table counts words flags identity
-  unfolding findUpTo
-  goes stop r e f = rw e f
-
-  pub either : (stop : Bool) (r : Search) → r ≡ searchOf words flags identity levelsPart 0 → r ≡ findOf table counts words flags identity
-      → r ≡ findUpTo stop table counts words flags identity
-  either true r f g = stops true r refl f
-  either false r f g = goes false r refl g
 
   module _ (r : Search) (is-r : r ≡ searchOf words flags identity levelsPart 0) where
     pub find-levels : findOf table counts words flags identity

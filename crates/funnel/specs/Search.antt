@@ -4,7 +4,6 @@ use mathlib.Core.List.{List, [], _∷_}
 use Prim.Native.Nat.{ℕ, _+_}
 use lib.ListN.{getD}
 use lib.Dec.{eqb}
-use Rattle.words.specs.Pick.{pick}
 use Rattle.words.specs.declared.place.Place.{Place}
 use Rattle.funnel.specs.declared.table.FunnelTable.{FunnelTable}
 use Rattle.funnel.specs.declared.table.Search.{Search}
@@ -41,12 +40,6 @@ tablePath table counts identity = pathOf (table .plan) counts (table .seed) (tab
 -- the search for an identity in a table
 unfoldable pub findOf : FunnelTable → (counts words flags : List ℕ) (identity : ℕ) → Search
 findOf table counts words flags identity = searchOf words flags identity (tablePath table counts identity) 0
-
--- the same, or along the ordinary part of the path alone, "per level one bucket"
-unfoldable pub findUpTo : (stop : Bool) → FunnelTable → (counts words flags : List ℕ) (identity : ℕ) → Search
-findUpTo stop table counts words flags identity =
-    pick stop (searchOf words flags identity (levelsFrom (table .plan) counts (table .seed) (table .«word_cap») identity 0 (table .plan .alpha)) 0)
-    (findOf table counts words flags identity)
 
 -- the slots that a walk reads, in order: "the number of slot readings the steps make"
 abbrev pub readOn : (vacant same : Bool) → List ℕ → List ℕ

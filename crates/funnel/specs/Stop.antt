@@ -4,14 +4,19 @@ use mathlib.Core.List.{List}
 use Prim.Native.Nat.{ℕ, _+_, _<_}
 use lib.ListN.{getD}
 use Rattle.words.specs.declared.place.Place.{Place}
+use Rattle.words.specs.declared.place.Place.the-variants as place
 use Rattle.probe.specs.Counter.{funnelCounterOf}
 use Rattle.probe.specs.Range.{FirstIndex}
 use Rattle.probe.specs.declared.counter.Domain.the-variants as domain
 use Rattle.probe.specs.declared.word.FunnelKey.{FunnelKey}
+use Rattle.funnel.specs.declared.table.Halt.{Halt}
+use Rattle.funnel.specs.declared.table.Halt.the-variants as halt
 use Rattle.funnel.specs.declared.table.Search.{Search}
 use Rattle.funnel.specs.declared.table.Search.the-variants as search
 use Rattle.funnel.specs.declared.table.Stop.{Stop}
 use Rattle.funnel.specs.declared.table.Stop.the-variants as stop
+use Rattle.funnel.specs.declared.table.Walk.{Walk}
+use Rattle.funnel.specs.declared.table.Walk.the-variants as walk
 use Rattle.funnel.specs.Path.{slotOf, run, bucketFrom}
 use Rattle.funnel.specs.Search.{searchOf}
 
@@ -41,6 +46,29 @@ BucketStops words flags identity from w r =
     (level bucket k : ℕ)
     → StopsAt r (searchOf words flags identity (run (bucketFrom level bucket from 0 w)) k)
     (searchOf words flags identity (run (bucketFrom level bucket from 0 w)) k ≡ search.Full (k + w))
+
+-- what a bucket of w slots from `from` on answers a search after k probes with, by where it halts
+unfoldable pub haltOf : (level bucket from w k : ℕ) → Halt → Search
+haltOf level bucket from w k (halt.Hit i) = search.Hit (k + i + 1) (place.Ordinary level bucket i (record { 0 = from + i }))
+haltOf level bucket from w k (halt.Vacant i) = search.Vacant (k + i + 1) (place.Ordinary level bucket i (record { 0 = from + i }))
+haltOf level bucket from w k halt.Nowhere = search.Full (k + w)
+
+unfoldable pub Inside : ℕ → Halt → Type 0
+Inside w (halt.Hit i) = i < w
+Inside w (halt.Vacant i) = i < w
+Inside w halt.Nowhere = Unit {0}
+
+-- where a bucket of w slots halts a search, whatever the bucket's numbers and the probes made before
+pub record Halts (words flags : List ℕ) (identity from w : ℕ) (r : Halt) : Type 0 where
+  pub inside : Inside w r
+  pub says : (level bucket k : ℕ) → searchOf words flags identity (run (bucketFrom level bucket from 0 w)) k ≡ haltOf level bucket from w k r
+
+-- what a walk over the levels says of the search along them
+unfoldable pub WalksTo : Walk → Search → Type 0
+WalksTo (walk.Hit probes level bucket index slot) found = found ≡ search.Hit probes (place.Ordinary level bucket index (record { 0 = slot }))
+WalksTo (walk.Vacant probes level bucket index slot) found = found ≡ search.Vacant probes (place.Ordinary level bucket index (record { 0 = slot }))
+WalksTo (walk.Past probes) found = found ≡ search.Full probes
+WalksTo walk.Unsettled found = Unit {0}
 
 -- the bucket of a level by its first word, where there is such a level
 pub record FirstAhead (key : FunnelKey) (counts : List ℕ) (alpha level bucket : ℕ) : Type 0 where

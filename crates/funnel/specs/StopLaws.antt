@@ -2,25 +2,31 @@
 use mathlib.Core.List.{List}
 use mathlib.Core.Path.{_≡_, refl, ap, sym, subst, _∙_}
 use Prim.Native.Nat.{ℕ, _+_, _-_, _*_, _≤_, _<_}
-use native.Mathlib.Nat.{zero-mul}
+use native.Mathlib.Nat.{zero-mul, mul-le-mul-left}
 use native.Mathlib.Omega.{arith}
 use lib.ListN.{getD}
+use Rattle.geometry.specs.FunnelLaws.{plan-facts}
+use Rattle.words.specs.declared.place.Place.the-variants as place
 use Rattle.probe.specs.declared.counter.Domain.the-variants as domain
 use Rattle.probe.specs.declared.range.Drawn.the-variants as drawn
 use Rattle.probe.specs.declared.word.FunnelKey.{FunnelKey}
 use Rattle.funnel.specs.declared.table.FunnelTable.{FunnelTable}
+use Rattle.funnel.specs.declared.table.Halt.{Halt}
+use Rattle.funnel.specs.declared.table.Halt.the-variants as halt
 use Rattle.funnel.specs.declared.table.Search.{Search}
 use Rattle.funnel.specs.declared.table.Search.the-variants as search
 use Rattle.funnel.specs.declared.table.Stop.{Stop}
 use Rattle.funnel.specs.declared.table.Stop.the-variants as stop
+use Rattle.funnel.specs.declared.table.Walk.{Walk}
+use Rattle.funnel.specs.declared.table.Walk.the-variants as walk
 use Rattle.funnel.specs.Path.{Path, run, bucketFrom, levelStart}
 use Rattle.funnel.specs.Search.{searchOf, findOf}
 use Rattle.funnel.specs.SearchLaws.{resume}
-use Rattle.funnel.specs.StageLaws.{BucketLeft, bucket-none, bucket-vacant, bucket-hit, bucket-more, bucket-end, drew, LevelsLeft, levelsOn, levels-none, levels-found}
+use Rattle.funnel.specs.StageLaws.{BucketLeft, bucket-none, bucket-vacant, bucket-hit, bucket-more, bucket-end, drew, LevelsLeft, levelsOn, levels-none, levels-found, levels-end}
 use Rattle.funnel.specs.FindLaws.{levelsPart, find-levels}
 use Rattle.funnel.specs.PlanLaws.{level-none, level-room, bucket-room}
 use Rattle.funnel.specs.Valid.{Valid, Keyed}
-use Rattle.funnel.specs.Stop.{StopsAt, BucketStops, FirstAhead}
+use Rattle.funnel.specs.Stop.{StopsAt, BucketStops, haltOf, Inside, Halts, WalksTo, FirstAhead}
 
 -- a search that stopped has stopped for good
 pub stops-resume : (words flags : List ℕ) (identity : ℕ) (q : Path) (r : Stop) (found : Search) (P Q : Type 0) → (r ≡ stop.Nowhere → Q)
@@ -41,29 +47,55 @@ module _ (words flags : List ℕ) (identity from w : ℕ) where
 
   module _ {i : ℕ} (p : Passing i) where
     module _ (h : i < w) (slot : ℕ) (s : slot ≡ from + i) where
-      pub passing-vacant : getD flags slot 0 ≡ 0 → BucketStops words flags identity from w (stop.Vacant slot)
-      unfolding StopsAt
-      passing-vacant v level bucket k =
-          record { probes = _; place = _; is = sym (bucket-vacant (p .left level bucket k) h (rw (← s) v)); there = s }
+      pub passing-vacant : getD flags slot 0 ≡ 0 → Halts words flags identity from w (halt.Vacant i)
+      unfolding haltOf Inside
+      passing-vacant v = record { inside = h; says = λ level bucket k. sym (bucket-vacant (p .left level bucket k) h (rw (← s) v)) }
 
       module _ (n : getD flags slot 0 ≡ 0 → ⊥) where
-        pub passing-hit : getD words slot 0 ≡ identity → BucketStops words flags identity from w (stop.Hit slot)
-        unfolding StopsAt
-        passing-hit e level bucket k =
-            record { probes = _; place = _; is = sym (bucket-hit (p .left level bucket k) h (rw (← s) n) (rw (← s) e)); there = s }
+        pub passing-hit : getD words slot 0 ≡ identity → Halts words flags identity from w (halt.Hit i)
+        unfolding haltOf Inside
+        passing-hit e = record { inside = h; says = λ level bucket k. sym (bucket-hit (p .left level bucket k) h (rw (← s) n) (rw (← s) e)) }
 
         pub passing-more : (getD words slot 0 ≡ identity → ⊥) → Passing (i + 1)
         passing-more e = record { left = λ level bucket k. bucket-more (p .left level bucket k) h (rw (← s) n) (rw (← s) e) }
 
-    pub passing-end : i ≡ w → BucketStops words flags identity from w stop.Nowhere
-    unfolding StopsAt
-    passing-end e level bucket k = sym (bucket-end (p .left level bucket k) e)
+    pub passing-end : i ≡ w → Halts words flags identity from w halt.Nowhere
+    unfolding haltOf Inside
+    passing-end e = record { inside = tt; says = λ level bucket k. sym (bucket-end (p .left level bucket k) e) }
 
   -- two slots more, as a loop that takes two a turn counts them
   pub passing-two : (i : ℕ) → Passing (i + 1 + 1) → Passing (i + 2)
   passing-two i p = let e : i + 2 ≡ i + 1 + 1 = omega arith in rw e p
 
+  -- the same by the slot
+  module _ (r : Halt) (h : Halts words flags identity from w r) where
+    pub halts-hit : (i : ℕ) → r ≡ halt.Hit i → BucketStops words flags identity from w (stop.Hit (from + i))
+    unfolding StopsAt haltOf
+    halts-hit i e level bucket k = record { probes = _; place = _; is = h .says level bucket k ∙ ap (haltOf level bucket from w k) e; there = refl }
+
+    pub halts-vacant : (i : ℕ) → r ≡ halt.Vacant i → BucketStops words flags identity from w (stop.Vacant (from + i))
+    unfolding StopsAt haltOf
+    halts-vacant i e level bucket k = record { probes = _; place = _; is = h .says level bucket k ∙ ap (haltOf level bucket from w k) e; there = refl }
+
+    pub halts-nowhere : r ≡ halt.Nowhere → BucketStops words flags identity from w stop.Nowhere
+    unfolding StopsAt haltOf
+    halts-nowhere e level bucket k = h .says level bucket k ∙ ap (haltOf level bucket from w k) e
+
+    pub inside-hit : (i : ℕ) → r ≡ halt.Hit i → i < w
+    unfolding Inside
+    inside-hit i e = subst (Inside w) e (h .inside)
+
+    pub inside-vacant : (i : ℕ) → r ≡ halt.Vacant i → i < w
+    unfolding Inside
+    inside-vacant i e = subst (Inside w) e (h .inside)
+
 -- ---- the levels, of which none before the given one stops the search
+
+pub levels-few : {table : FunnelTable} {counts words flags : List ℕ} → Valid table counts words flags → table .plan .alpha * table .plan .beta ≤ 6372
+levels-few {table} valid =
+    let f = plan-facts (valid .planned) in
+    let m : table .plan .alpha * table .plan .beta ≤ table .plan .alpha * 54 = mul-le-mul-left (table .plan .alpha) (omega arith) in
+    omega arith
 
 module _ (table : FunnelTable) (counts words flags : List ℕ) (identity : ℕ) (key : FunnelKey) where
   pub record LevelsPassed (level start bucket : ℕ) : Type 0 where
@@ -121,3 +153,62 @@ module _ (table : FunnelTable) (counts words flags : List ℕ) (identity : ℕ) 
           left = record { left = rw e (passed-found ∙ ap (resume words flags identity _) f) };
           ahead = a;
         }
+
+    -- what a walk over the levels says where a bucket halts it
+    module _ (r : Halt) (s : Halts words flags identity (start + bucket * table .plan .beta) (table .plan .beta) r) (i : ℕ) where
+      walks-found : searchOf words flags identity (levelsPart table counts words flags identity) 0
+          ≡ resume words flags identity (levelsOn (table .plan) counts words flags (table .seed) (table .«word_cap») identity (level + 1))
+          (haltOf level bucket (start + bucket * table .plan .beta) (table .plan .beta) (level * table .plan .beta) r)
+      walks-found = passed-found ∙ ap (resume words flags identity _) (s .says level bucket (level * table .plan .beta))
+
+      pub walks-hit : r ≡ halt.Hit i
+          → WalksTo (walk.Hit (level * table .plan .beta + i + 1) level bucket i (start + bucket * table .plan .beta + i))
+          (searchOf words flags identity (levelsPart table counts words flags identity) 0)
+      unfolding resume haltOf WalksTo
+      walks-hit e = walks-found ∙ rw e
+
+      pub walks-vacant : r ≡ halt.Vacant i
+          → WalksTo (walk.Vacant (level * table .plan .beta + i + 1) level bucket i (start + bucket * table .plan .beta + i))
+          (searchOf words flags identity (levelsPart table counts words flags identity) 0)
+      unfolding resume haltOf WalksTo
+      walks-vacant e = walks-found ∙ rw e
+
+      -- the probes up to a slot are few
+      pub walks-few : i < table .plan .beta → level * table .plan .beta + i + 1 ≤ 6373
+      walks-few l =
+          let f = plan-facts (valid .planned) in
+          let m : level * table .plan .beta ≤ level * 54 = mul-le-mul-left level (omega arith) in
+          omega arith
+
+  -- past the levels, each of their slots has been read
+  pub walks-past : {level start bucket : ℕ} → LevelsPassed level start bucket → table .plan .alpha ≤ level
+      → WalksTo (walk.Past (table .plan .alpha * table .plan .beta)) (searchOf words flags identity (levelsPart table counts words flags identity) 0)
+  unfolding WalksTo
+  walks-past {level} p h =
+      let e : level ≡ table .plan .alpha = omega (arith, p .within) in
+      sym (levels-end (table .plan) counts words flags (table .seed) (table .«word_cap») identity (p .left) h)
+      ∙ ap (λ (x : ℕ). search.Full (x * table .plan .beta)) e
+
+-- what a walk over the levels says of the whole search
+module _ (table : FunnelTable) (counts words flags : List ℕ) (identity : ℕ) (r : Walk)
+    (w : WalksTo r (searchOf words flags identity (levelsPart table counts words flags identity) 0)) where
+  abbrev levels : Search
+  levels = searchOf words flags identity (levelsPart table counts words flags identity) 0
+
+  pub walked-hit : (probes level bucket index slot : ℕ) → r ≡ walk.Hit probes level bucket index slot
+      → search.Hit probes (place.Ordinary level bucket index (record { 0 = slot })) ≡ findOf table counts words flags identity
+  unfolding WalksTo resume
+  walked-hit probes level bucket index slot e =
+      let a : levels ≡ search.Hit probes (place.Ordinary level bucket index (record { 0 = slot })) = subst (λ (x : Walk). WalksTo x levels) e w in
+      sym (find-levels table counts words flags identity (search.Hit probes (place.Ordinary level bucket index (record { 0 = slot }))) (sym a))
+
+  pub walked-vacant : (probes level bucket index slot : ℕ) → r ≡ walk.Vacant probes level bucket index slot
+      → search.Vacant probes (place.Ordinary level bucket index (record { 0 = slot })) ≡ findOf table counts words flags identity
+  unfolding WalksTo resume
+  walked-vacant probes level bucket index slot e =
+      let a : levels ≡ search.Vacant probes (place.Ordinary level bucket index (record { 0 = slot })) = subst (λ (x : Walk). WalksTo x levels) e w in
+      sym (find-levels table counts words flags identity (search.Vacant probes (place.Ordinary level bucket index (record { 0 = slot }))) (sym a))
+
+  pub walked-past : (probes : ℕ) → r ≡ walk.Past probes → levels ≡ search.Full probes
+  unfolding WalksTo
+  walked-past probes e = subst (λ (x : Walk). WalksTo x levels) e w

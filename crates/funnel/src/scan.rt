@@ -5,7 +5,8 @@ ghost use Prim.Native.Nat.{_+_, _*_, _%_, _≤_, _<_, _^_};
 ghost use lib.ListN.{length};
 ghost use Rattle.funnel.specs.Path.{slotOf, run, bucketFrom, pairsFrom};
 ghost use Rattle.funnel.specs.Search.{searchOf};
-ghost use Rattle.funnel.specs.Stop.{BucketStops};
+ghost use Rattle.funnel.specs.Stop.{BucketStops, Halts};
+use crate::table::Halt;
 use crate::table::Search;
 use crate::table::Stop;
 use words::place::GlobalSlot;
@@ -56,32 +57,43 @@ pub fn scan(
     Search::Full { probes: probes + w }
 }
 
-// Where a bucket of w slots stops a search, for an even w: two slots a turn, no place and no count of probes.
+// Where a bucket of w slots stops a search, for an even w: two slots a turn, no place and no count of probes. The loop holds an index and
+// no slot, so that it needs few registers.
+pub fn halt(words: &[u64], flags: &[u8], identity: u64, from: u64, w: u64) -> Halt
+    requires { ⌜ (from + w ≤ length (now words)) × (from + w ≤ length (now flags)) × (w % 2 ≡ 0) ⌝ }
+    ensures { λ r. ⌜ Halts (now (words .entry)) (now (flags .entry)) identity from w r ⌝ }
+{
+    let mut i = 0;
+    while i < w {
+        let first = (from + i) as usize;
+        if flags[first] == 0 {
+            return Halt::Vacant { index: i };
+        }
+        if words[first] == identity {
+            return Halt::Hit { index: i };
+        }
+        let second = (from + i + 1) as usize;
+        if flags[second] == 0 {
+            return Halt::Vacant { index: i + 1 };
+        }
+        if words[second] == identity {
+            return Halt::Hit { index: i + 1 };
+        }
+        i += 2;
+    }
+    Halt::Nowhere
+}
+
+// The same by the slot.
 pub fn pass(words: &[u64], flags: &[u8], identity: u64, from: u64, w: u64) -> Stop
     requires { ⌜ (from + w ≤ length (now words)) × (from + w ≤ length (now flags)) × (w % 2 ≡ 0) ⌝ }
     ensures { λ r. ⌜ BucketStops (now (words .entry)) (now (flags .entry)) identity from w r ⌝ }
 {
-    let mut i = 0;
-    while i < w {
-        let slot = from + i;
-        let first = slot as usize;
-        if flags[first] == 0 {
-            return Stop::Vacant { slot };
-        }
-        if words[first] == identity {
-            return Stop::Hit { slot };
-        }
-        let next = slot + 1;
-        let second = next as usize;
-        if flags[second] == 0 {
-            return Stop::Vacant { slot: next };
-        }
-        if words[second] == identity {
-            return Stop::Hit { slot: next };
-        }
-        i += 2;
+    match halt(words, flags, identity, from, w) {
+        Halt::Hit { index } => Stop::Hit { slot: from + index },
+        Halt::Vacant { index } => Stop::Vacant { slot: from + index },
+        Halt::Nowhere => Stop::Nowhere,
     }
-    Stop::Nowhere
 }
 
 // The reading of one place, whose slot is `at`, with some probes made before.

@@ -5,16 +5,20 @@ ghost use lib.ListN.{length, getD};
 ghost use Rattle.probe.specs.Counter.{levelOf, funnelCounterOf};
 ghost use Rattle.probe.specs.Range.{drawOf};
 ghost use Rattle.funnel.specs.Path.{levelsFrom, primaryFrom, fallbackOf};
-ghost use Rattle.funnel.specs.Search.{searchOf, findOf, findUpTo};
-ghost use Rattle.funnel.specs.Stop.{StopsAt, FirstAhead};
+ghost use Rattle.funnel.specs.Search.{searchOf, findOf};
+ghost use Rattle.funnel.specs.Stop.{StopsAt, WalksTo, FirstAhead};
+ghost use Rattle.funnel.specs.declared.table.Search.the-variants.{Full};
 ghost use Rattle.funnel.specs.Valid.{Valid, Keyed, SpecialRoom, Drawable, DrawnAhead};
+use crate::scan::halt;
 use crate::scan::pass;
 use crate::scan::read;
 use crate::scan::scan;
 use crate::scan::scan_pairs;
 use crate::table::FunnelTable;
+use crate::table::Halt;
 use crate::table::Search;
 use crate::table::Stop;
+use crate::table::Walk;
 use probe::counter::Domain;
 use probe::counter::funnel_base;
 use probe::range::Drawn;
@@ -27,7 +31,8 @@ use words::place::GlobalSlot;
 use words::place::LogicalProbe;
 use words::place::Place;
 
-// The search for an identity in a valid table.
+// The search for an identity in a valid table. Nearly always the walk settles it, or leads past the levels; the stages that may take
+// further words are calls, and get a copy of the table, so that it stays in registers.
 pub fn find(
     table: FunnelTable,
     counts: &[u64; 118],
@@ -38,7 +43,47 @@ pub fn find(
     requires { ⌜ Valid table (now counts) (now words) (now flags) ⌝ }
     ensures { λ r. ⌜ r ≡ findOf table (now (counts .entry)) (now (words .entry)) (now (flags .entry)) identity ⌝ }
 {
-    find_up_to(table, counts, words, flags, identity, false)
+    let key = funnel_key(table.seed, identity);
+    match walk(table, counts, words, flags, identity, key) {
+        Walk::Hit {
+            probes,
+            level,
+            bucket,
+            index,
+            slot,
+        } => Search::Hit {
+            probes,
+            place: Place::Ordinary {
+                level,
+                bucket,
+                slot_in_bucket: index,
+                global_slot: GlobalSlot(slot),
+            },
+        },
+        Walk::Vacant {
+            probes,
+            level,
+            bucket,
+            index,
+            slot,
+        } => Search::Vacant {
+            probes,
+            place: Place::Ordinary {
+                level,
+                bucket,
+                slot_in_bucket: index,
+                global_slot: GlobalSlot(slot),
+            },
+        },
+        Walk::Past { probes } => {
+            let rest = table;
+            search_special(rest, counts, words, flags, identity, key, probes)
+        }
+        Walk::Unsettled => {
+            let rest = table;
+            find_drawn(rest, counts, words, flags, identity, key)
+        }
+    }
 }
 
 // The search along the ordinary part of an identity's path alone.
@@ -52,39 +97,105 @@ pub fn find_ordinary(
     requires { ⌜ Valid table (now counts) (now words) (now flags) ⌝ }
     ensures { λ r. ⌜ r ≡ searchOf (now (words .entry)) (now (flags .entry)) identity (levelsFrom (table .plan) (now (counts .entry)) (table .seed) (table .«word_cap») identity 0 (table .plan .alpha)) 0 ⌝ }
 {
-    find_up_to(table, counts, words, flags, identity, true)
+    let key = funnel_key(table.seed, identity);
+    search_levels(table, counts, words, flags, identity, key)
 }
 
-// The search for an identity, which may be told to stop where the ordinary part of the path ends. One function serves both, so that
-// the stages are compiled into it. The key is worked out once.
-fn find_up_to(
+// The search by draws that can take further words.
+fn find_drawn(
     table: FunnelTable,
     counts: &[u64; 118],
     words: &[u64],
     flags: &[u8],
     identity: u64,
-    stop: bool,
+    key: FunnelKey,
 ) -> Search
-    requires { ⌜ Valid table (now counts) (now words) (now flags) ⌝ }
-    ensures { λ r. ⌜ r ≡ findUpTo stop table (now (counts .entry)) (now (words .entry)) (now (flags .entry)) identity ⌝ }
+    requires { ⌜ Valid table (now counts) (now words) (now flags) × Keyed (table .seed) identity key ⌝ }
+    ensures { λ r. ⌜ r ≡ findOf table (now (counts .entry)) (now (words .entry)) (now (flags .entry)) identity ⌝ }
 {
-    let key = funnel_key(table.seed, identity);
     let ordinary = search_levels(table, counts, words, flags, identity, key);
     let Search::Full { probes: read } = ordinary else {
         return ordinary;
     };
-    if stop {
-        return ordinary;
-    }
-    // The later stages are seldom reached and not compiled into this function: they get a copy, so that the table stays in registers.
-    let rest = table;
+    search_special(table, counts, words, flags, identity, key, read)
+}
+
+// The search where the ordinary part of the path met neither the identity nor a vacancy.
+fn search_special(
+    table: FunnelTable,
+    counts: &[u64; 118],
+    words: &[u64],
+    flags: &[u8],
+    identity: u64,
+    key: FunnelKey,
+    probes: u64,
+) -> Search
+    requires { ⌜ Valid table (now counts) (now words) (now flags) × Keyed (table .seed) identity key × (searchOf (now words) (now flags) identity (levelsFrom (table .plan) (now counts) (table .seed) (table .«word_cap») identity 0 (table .plan .alpha)) 0 ≡ Full probes) ⌝ }
+    ensures { λ r. ⌜ r ≡ findOf table (now (counts .entry)) (now (words .entry)) (now (flags .entry)) identity ⌝ }
+{
     let primary_start = table.n - table.plan.special_len;
-    let primary = search_primary(rest, primary_start, words, flags, identity, key, read);
+    let primary = search_primary(table, primary_start, words, flags, identity, key, probes);
     let Search::Full { probes: more } = primary else {
         return primary;
     };
     let fallback_start = primary_start + table.plan.special_primary_len;
-    search_fallback(rest, fallback_start, words, flags, identity, key, more)
+    search_fallback(table, fallback_start, words, flags, identity, key, more)
+}
+
+// The levels by first words, as `pass_levels` walks them, with the numbers of a place and the probes.
+fn walk(
+    table: FunnelTable,
+    counts: &[u64; 118],
+    words: &[u64],
+    flags: &[u8],
+    identity: u64,
+    key: FunnelKey,
+) -> Walk
+    requires { ⌜ Valid table (now counts) (now words) (now flags) × Keyed (table .seed) identity key ⌝ }
+    ensures { λ r. ⌜ WalksTo r (searchOf (now (words .entry)) (now (flags .entry)) identity (levelsFrom (table .plan) (now (counts .entry)) (table .seed) (table .«word_cap») identity 0 (table .plan .alpha)) 0) ⌝ }
+{
+    let alpha = table.plan.alpha;
+    let beta = table.plan.beta;
+    let mut level = 0;
+    let mut start = 0;
+    let mut bucket = first_bucket(key, counts, alpha, 0);
+    while level < alpha {
+        let count = counts[level as usize];
+        if count <= bucket {
+            return Walk::Unsettled;
+        }
+        // The next level's bucket is drawn before this one is read, so that it is at hand when this one is full.
+        let ahead = first_bucket(key, counts, table.plan.alpha, level + 1);
+        let from = start + bucket * beta;
+        match halt(words, flags, identity, from, beta) {
+            Halt::Hit { index } => {
+                return Walk::Hit {
+                    probes: level * beta + index + 1,
+                    level,
+                    bucket,
+                    index,
+                    slot: from + index,
+                };
+            }
+            Halt::Vacant { index } => {
+                return Walk::Vacant {
+                    probes: level * beta + index + 1,
+                    level,
+                    bucket,
+                    index,
+                    slot: from + index,
+                };
+            }
+            Halt::Nowhere => {
+                bucket = ahead;
+                start += count * beta;
+                level += 1;
+            }
+        }
+    }
+    Walk::Past {
+        probes: alpha * beta,
+    }
 }
 
 // "per level one bucket, slots in order"

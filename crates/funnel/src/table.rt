@@ -29,6 +29,35 @@ pub enum Stop {
     Nowhere,
 }
 
+// Where a bucket stops a search: at the slot with an index in it, or nowhere.
+pub enum Halt {
+    Hit { index: u64 },
+    Vacant { index: u64 },
+    Nowhere,
+}
+
+// Where a walk over the levels by first words ends, in numbers: at a slot, past them all, or before a level whose first word is rejected.
+pub enum Walk {
+    Hit {
+        probes: u64,
+        level: u64,
+        bucket: u64,
+        index: u64,
+        slot: u64,
+    },
+    Vacant {
+        probes: u64,
+        level: u64,
+        bucket: u64,
+        index: u64,
+        slot: u64,
+    },
+    Past {
+        probes: u64,
+    },
+    Unsettled,
+}
+
 // What an insertion into a valid table is answered.
 pub enum Insertion {
     Inserted { probes: u64, place: Place },

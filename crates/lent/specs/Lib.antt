@@ -4,3 +4,4 @@ pub mod Valid
 pub mod ValidLaws
 pub mod PutLaws
 pub mod PlaceLaws
+pub mod ScanLaws

@@ -4,6 +4,7 @@ use mathlib.Core.Path.{_≡_, refl, sym, _∙_}
 use native.Mathlib.Omega.{arith}
 use Rattle.funnel.specs.StopLaws.{Passing, passing-none, passing-vacant, passing-hit, passing-more, passing-end, passing-two}
 use Rattle.lent.specs.Lent.{wordsOf}
+use Rattle.lent.specs.ScanLaws.{stops-hit, stops-vacant, stops-nowhere}
 use Rattle.lent.proofs.scan.pass.Statement.{statement}
 use Rattle.lent.proofs.scan.pass.Tie as tie
 
@@ -23,13 +24,13 @@ shared-slice-read-if1 : tie.Need-shared-slice-read-if1 Inv-loop μ-loop
 shared-slice-read-if1 c = omega arith
 
 returns : tie.Need-returns Inv-loop μ-loop
-returns c = passing-vacant _ _ _ _ _ (c .before .before .before .loop .inv .2) (c .before .before .loop-test .taken) _ refl (c .if1 .taken)
+returns c = stops-vacant _ _ _ _ _ _ _ (passing-vacant _ _ _ _ _ (c .before .before .before .loop .inv .2) (c .before .before .loop-test .taken) _ refl (c .if1 .taken)) refl
 
 word-at-requires : tie.Need-word-at-requires Inv-loop μ-loop
 word-at-requires c κs = omega arith
 
 returns-2 : tie.Need-returns-2 Inv-loop μ-loop
-returns-2 c = passing-hit _ _ _ _ _ (c .before .before .before .before .before .loop .inv .2) (c .before .before .before .before .loop-test .taken) _ refl (c .before .before .if1 .left) (sym (c .before .word-at .ensures) ∙ c .if2 .taken)
+returns-2 c = stops-hit _ _ _ _ _ _ _ (passing-hit _ _ _ _ _ (c .before .before .before .before .before .loop .inv .2) (c .before .before .before .before .loop-test .taken) _ refl (c .before .before .if1 .left) (sym (c .before .word-at .ensures) ∙ c .if2 .taken)) refl
 
 add-next : tie.Need-add-next Inv-loop μ-loop
 add-next c = omega arith
@@ -39,18 +40,18 @@ shared-slice-read-if3 c = let l = c .before .before .before .before .before .loo
 
 returns-3 : tie.Need-returns-3 Inv-loop μ-loop
 returns-3 c = let l = c .before .before .before .before .before .before .loop-test .taken in
-    let v = c .before .before .before .before .before .before .before .loop .inv in
-    let p = passing-more _ _ _ _ _ (v .2) l _ refl (c .before .before .before .before .if1 .left) (λ e. c .before .before .if2 .left (c .before .before .before .word-at .ensures ∙ e)) in
-    passing-vacant _ _ _ _ _ p (omega arith) _ (omega arith) (c .if3 .taken)
+     let v = c .before .before .before .before .before .before .before .loop .inv in
+     let p = passing-more _ _ _ _ _ (v .2) l _ refl (c .before .before .before .before .if1 .left) (λ e. c .before .before .if2 .left (c .before .before .before .word-at .ensures ∙ e)) in
+     stops-vacant _ _ _ _ _ _ _ (passing-vacant _ _ _ _ _ p (omega arith) _ (omega arith) (c .if3 .taken)) (omega arith)
 
 word-at-requires-2 : tie.Need-word-at-requires-2 Inv-loop μ-loop
 word-at-requires-2 c κs = let l = c .before .before .before .before .before .before .loop-test .taken in let v = c .before .before .before .before .before .before .before .loop .inv in omega arith
 
 returns-4 : tie.Need-returns-4 Inv-loop μ-loop
 returns-4 c = let l = c .before .before .before .before .before .before .before .before .loop-test .taken in
-    let v = c .before .before .before .before .before .before .before .before .before .loop .inv in
-    let p = passing-more _ _ _ _ _ (v .2) l _ refl (c .before .before .before .before .before .before .if1 .left) (λ e. c .before .before .before .before .if2 .left (c .before .before .before .before .before .word-at .ensures ∙ e)) in
-    passing-hit _ _ _ _ _ p (omega arith) _ (omega arith) (c .before .before .if3 .left) (sym (c .before .word-at2 .ensures) ∙ c .if4 .taken)
+     let v = c .before .before .before .before .before .before .before .before .before .loop .inv in
+     let p = passing-more _ _ _ _ _ (v .2) l _ refl (c .before .before .before .before .before .before .if1 .left) (λ e. c .before .before .before .before .if2 .left (c .before .before .before .before .before .word-at .ensures ∙ e)) in
+     stops-hit _ _ _ _ _ _ _ (passing-hit _ _ _ _ _ p (omega arith) _ (omega arith) (c .before .before .if3 .left) (sym (c .before .word-at2 .ensures) ∙ c .if4 .taken)) (omega arith)
 
 add-i : tie.Need-add-i Inv-loop μ-loop
 add-i c = omega arith
@@ -65,7 +66,7 @@ loop-again c = let l = c .before .before .before .before .before .before .before
     (omega arith, omega arith, passing-two _ _ _ _ _ _ (passing-more _ _ _ _ _ p (omega arith) _ (omega arith) (c .before .before .if3 .left) (λ e. c .if4 .left (c .before .word-at2 .ensures ∙ e))))
 
 returns-5 : tie.Need-returns-5 Inv-loop μ-loop
-returns-5 c = let v = c .before .loop .inv in passing-end _ _ _ _ _ (v .2) (omega arith)
+returns-5 c = let v = c .before .loop .inv in stops-nowhere _ _ _ _ _ (passing-end _ _ _ _ _ (v .2) (omega arith))
 
 pub pass-spec : {M : Type 1} → statement M
 pass-spec =
