@@ -40,18 +40,18 @@ shared-slice-read-if3 c = let l = c .before .before .before .before .before .loo
 
 returns-3 : tie.Need-returns-3 Inv-loop μ-loop
 returns-3 c = let l = c .before .before .before .before .before .before .loop-test .taken in
-     let v = c .before .before .before .before .before .before .before .loop .inv in
-     let p = passing-more _ _ _ _ _ (v .2) l _ refl (c .before .before .before .before .if1 .left) (λ e. c .before .before .if2 .left (c .before .before .before .word-at .ensures ∙ e)) in
-     stops-vacant _ _ _ _ _ _ _ (passing-vacant _ _ _ _ _ p (omega arith) _ (omega arith) (c .if3 .taken)) (omega arith)
+    let v = c .before .before .before .before .before .before .before .loop .inv in
+    let p = passing-more _ _ _ _ _ (v .2) l _ refl (c .before .before .before .before .if1 .left) (λ e. c .before .before .if2 .left (c .before .before .before .word-at .ensures ∙ e)) in
+    stops-vacant _ _ _ _ _ _ _ (passing-vacant _ _ _ _ _ p (omega arith) _ (omega arith) (c .if3 .taken)) (omega arith)
 
 word-at-requires-2 : tie.Need-word-at-requires-2 Inv-loop μ-loop
 word-at-requires-2 c κs = let l = c .before .before .before .before .before .before .loop-test .taken in let v = c .before .before .before .before .before .before .before .loop .inv in omega arith
 
 returns-4 : tie.Need-returns-4 Inv-loop μ-loop
 returns-4 c = let l = c .before .before .before .before .before .before .before .before .loop-test .taken in
-     let v = c .before .before .before .before .before .before .before .before .before .loop .inv in
-     let p = passing-more _ _ _ _ _ (v .2) l _ refl (c .before .before .before .before .before .before .if1 .left) (λ e. c .before .before .before .before .if2 .left (c .before .before .before .before .before .word-at .ensures ∙ e)) in
-     stops-hit _ _ _ _ _ _ _ (passing-hit _ _ _ _ _ p (omega arith) _ (omega arith) (c .before .before .if3 .left) (sym (c .before .word-at2 .ensures) ∙ c .if4 .taken)) (omega arith)
+    let v = c .before .before .before .before .before .before .before .before .before .loop .inv in
+    let p = passing-more _ _ _ _ _ (v .2) l _ refl (c .before .before .before .before .before .before .if1 .left) (λ e. c .before .before .before .before .if2 .left (c .before .before .before .before .before .word-at .ensures ∙ e)) in
+    stops-hit _ _ _ _ _ _ _ (passing-hit _ _ _ _ _ p (omega arith) _ (omega arith) (c .before .before .if3 .left) (sym (c .before .word-at2 .ensures) ∙ c .if4 .taken)) (omega arith)
 
 add-i : tie.Need-add-i Inv-loop μ-loop
 add-i c = omega arith
