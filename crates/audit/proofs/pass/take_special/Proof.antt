@@ -1,6 +1,6 @@
 -- `audit::pass::take_special` meets its contract. Assumes nothing.
 use native.Mathlib.Omega.{arith}
-use mathlib.Core.Path.{_≡_, refl, _∙_}
+use mathlib.Core.Path.{refl, _∙_}
 use Rattle.audit.specs.GreedyLaws.{valid-marks}
 use Rattle.audit.specs.MarkedLaws.{listed-slots, listed-few, restored, marks-end}
 use Rattle.audit.specs.VerdictLaws.{special-room, doing-start}
