@@ -9,7 +9,7 @@ use native.Mathlib.Omega.{arith}
 use lib.ListN.{length, getD, set, replicate, length-set, List·getD-eq-default}
 use lib.Seq.{getD-set-same, getD-set-other}
 use lib.Pow.{pow-mono}
-use lib.Dec.{eqb, ltb}
+use lib.Dec.{ltb}
 use borrow.Author.Tests.{eq-eqb, ne-eqb, ltb-true, ltb-false}
 use Rattle.words.specs.Pick.{pick}
 use Rattle.geometry.specs.Funnel.{IsPlan}
@@ -20,7 +20,7 @@ use Rattle.funnel.specs.declared.table.FunnelTable.{FunnelTable}
 use Rattle.funnel.specs.Path.{primaryStart}
 use Rattle.funnel.specs.PlanLaws.{primary-start}
 use Rattle.queue.specs.Queue.{Queue, Changed}
-use Rattle.waiting.specs.Links.{link, space, candidate, Fits, Beyond, Cleared}
+use Rattle.waiting.specs.Links.{space, candidate, Beyond, Cleared}
 use Rattle.waiting.specs.LinksLaws.{link-alike, candidate-alike, queue-alike}
 use Rattle.waiting.specs.WaitingLaws.{waiting-start}
 use Rattle.audit.specs.Greedy.{Taken}

@@ -13,7 +13,7 @@ use Rattle.funnel.specs.declared.table.Search.{Search}
 use Rattle.funnel.specs.declared.table.Search.the-variants as search
 use Rattle.funnel.specs.Path.{slotOf}
 use Rattle.funnel.specs.Search.{searchOf}
-use Rattle.waiting.specs.Links.{space, candidate, Fits, Beyond}
+use Rattle.waiting.specs.Links.{candidate, Fits, Beyond}
 use Rattle.waiting.specs.Waiting.{Waiting}
 use Rattle.audit.specs.declared.slots.First.{First}
 use Rattle.audit.specs.declared.slots.First.the-variants.{At, Nothing}

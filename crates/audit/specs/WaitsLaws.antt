@@ -16,26 +16,24 @@ use Rattle.funnel.specs.declared.table.FunnelTable.{FunnelTable}
 use Rattle.funnel.specs.declared.table.Search.{Search}
 use Rattle.funnel.specs.declared.table.Search.the-variants as search
 use Rattle.funnel.specs.Path.{slotOf, primaryStart}
-use Rattle.funnel.specs.Search.{searchOf}
 use Rattle.queue.specs.declared.scan.Smallest.{Smallest}
 use Rattle.queue.specs.declared.scan.Smallest.the-variants as queued
 use Rattle.queue.specs.Queue.{holds, Queue, Changed, firstIn, Found}
 use Rattle.queue.specs.FirstLaws.{first-found, first-none}
-use Rattle.waiting.specs.Links.{link, space, candidate, Fits, idle, Beyond, Filed}
+use Rattle.waiting.specs.Links.{space, candidate, Fits, idle, Filed}
 use Rattle.waiting.specs.LinksLaws.{link-alike, candidate-alike, queue-alike, idle-less, idle-most}
 use Rattle.waiting.specs.Waiting.{Unique, Waiting, Chained, Woken}
-use Rattle.waiting.specs.WaitingLaws.{not-both, waiting-quiet, waiting-dropped, waiting-filed, waiting-placed}
+use Rattle.waiting.specs.WaitingLaws.{waiting-quiet, waiting-dropped, waiting-filed, waiting-placed}
 use Rattle.audit.specs.declared.slots.First.{First}
 use Rattle.audit.specs.declared.slots.First.the-variants.{At, Nothing}
-use Rattle.audit.specs.Greedy.{firstFrom, ready, Taken, taken, greedyOf}
-use Rattle.audit.specs.Going.{Going}
+use Rattle.audit.specs.Greedy.{firstFrom, ready, Taken, taken}
 use Rattle.audit.specs.FirstLaws.{first-at, first-all}
 use Rattle.audit.specs.GreedyLaws.{going-special, going-stop, going-end}
 use Rattle.audit.specs.ReadyLaws.{vacantAt}
 use Rattle.audit.specs.Special.{specialPath, live, readyPast}
 use Rattle.audit.specs.SpecialLaws.{live-alike, special-alike, special-vacant, search-marked, ready-live}
 use Rattle.audit.specs.VerdictLaws.{Room}
-use Rattle.audit.specs.Waits.{specialEnd, vacancyOf, waitsOf, pendingOf, Doing, Begun, Ended, Choice, Chosen, Turned}
+use Rattle.audit.specs.Waits.{specialEnd, vacancyOf, waitsOf, pendingOf, Doing, Ended, Choice, Chosen, Turned}
 
 -- ---- waiting
 
@@ -224,6 +222,13 @@ module _ {table : FunnelTable} {counts : List ℕ} (is : IsPlan (table .n) (tabl
     unfolding waitsOf
     final e u q = vacancy-none table is words marks start (start + c) at r v e (start + u) q
 
+    -- a candidate fewer
+    fewer : (after : List ℕ) → candidate after m c ≡ false → ((k : ℕ) → k < m → (k ≡ c → ⊥) → candidate after m k ≡ candidate marks m k) → m - idle after m m < m - idle marks m m
+    fewer after here others =
+        let i = idle-less after marks m c m smallest-below here (found .holds) (λ y l n. sym (others y l n)) in
+        let j = idle-most after m m in
+        omega arith
+
     module _ {after : List ℕ} where
       -- filed under the slot that it waits on
       pub turned-filed : (end : ℕ) → r ≡ At end → (end ≡ start + c → ⊥) → Filed marks after m c (end - start) → Turned table words start m before after
@@ -237,10 +242,7 @@ module _ {table : FunnelTable} {counts : List ℕ} (is : IsPlan (table .n) (tabl
           }
 
       pub filed-fewer : (end : ℕ) → Filed marks after m c (end - start) → m - idle after m m < m - idle marks m m
-      filed-fewer end d =
-          let i = idle-less after marks m c m smallest-below (d .here) (found .holds) (λ y l n. sym (d .others y l n)) in
-          let j = idle-most after m m in
-          omega arith
+      filed-fewer end d = fewer after (d .here) (d .others)
 
       -- one that waits on nothing
       pub turned-dropped : r ≡ Nothing → Changed false marks after (8 * m) m c → Turned table words start m before after
@@ -252,10 +254,7 @@ module _ {table : FunnelTable} {counts : List ℕ} (is : IsPlan (table .n) (tabl
           }
 
       pub dropped-fewer : Changed false marks after (8 * m) m c → m - idle after m m < m - idle marks m m
-      dropped-fewer d =
-          let i = idle-less after marks m c m smallest-below (d .here) (found .holds) (λ y l n. sym (d .others y l n)) in
-          let j = idle-most after m m in
-          omega arith
+      dropped-fewer d = fewer after (d .here) (d .others)
 
 -- ---- a turn
 

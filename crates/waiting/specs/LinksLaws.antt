@@ -2,8 +2,8 @@
 use mathlib.Core.Bool.{Bool, true, false}
 use mathlib.Core.List.{List, [], _∷_}
 use mathlib.Core.Logic.{_⊎_, inl, inr, ⊎-elim}
-use mathlib.Core.Path.{_≡_, refl, ap, sym, _∙_}
-use Prim.Native.Nat.{ℕ, zero, suc, _+_, _*_, _-_, _/_, _%_, _^_, _≤_, _<_}
+use mathlib.Core.Path.{_≡_, refl, sym, _∙_}
+use Prim.Native.Nat.{ℕ, zero, suc, _+_, _*_, _/_, _%_, _≤_, _<_}
 use native.Mathlib.Nat.{eq-or-lt-of-le}
 use native.Mathlib.Omega.{arith}
 use lib.ListN.{length, getD, set}
@@ -13,9 +13,9 @@ use borrow.Author.Tests.{eqb-true, eqb-false, ltb-true, ltb-false}
 use Rattle.words.specs.Bytes.{bytesOf, numAt, Read}
 use Rattle.words.specs.BytesLaws.{length-bytes, num-sets, num-stored}
 use Rattle.words.specs.Pick.{pick}
-use Rattle.queue.specs.Queue.{room, holds, Queue, Kept, Emptied, Changed}
+use Rattle.queue.specs.Queue.{holds, Queue, Emptied, Changed}
 use Rattle.queue.specs.Level.{groups, Over, Wiped}
-use Rattle.waiting.specs.Links.{link, space, candidate, Fits, idle, Beyond, Cleared, Filed, Popped}
+use Rattle.waiting.specs.Links.{link, space, candidate, Fits, idle, Cleared, Filed, Popped}
 
 -- ---- bytes that stay
 

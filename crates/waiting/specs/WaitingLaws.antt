@@ -1,15 +1,14 @@
 -- Laws of waiting: it holds on as numbers are filed, dropped, woken and placed. Assumes nothing.
 use mathlib.Core.Bool.{Bool, true, false}
 use mathlib.Core.List.{List, [], _∷_}
-use mathlib.Core.Logic.{_⊎_, inl, inr, ⊎-elim}
+use mathlib.Core.Logic.{inl, inr, ⊎-elim}
 use mathlib.Core.Path.{_≡_, refl, ap, sym, _∙_}
-use Prim.Native.Nat.{ℕ, _+_, _*_, _-_, _≤_, _<_}
+use Prim.Native.Nat.{ℕ, _+_, _*_, _-_, _<_}
 use native.Mathlib.Omega.{arith}
-use lib.ListN.{length, getD}
 use lib.Dec.{eqb}
 use borrow.Author.Tests.{eqb-true, eqb-false}
 use Rattle.words.specs.Pick.{pick}
-use Rattle.queue.specs.Queue.{Queue, Kept, Changed}
+use Rattle.queue.specs.Queue.{Changed}
 use Rattle.waiting.specs.Links.{link, candidate, Fits, idle, Filed, Popped}
 use Rattle.waiting.specs.LinksLaws.{link-alike, idle-less}
 use Rattle.waiting.specs.Waiting.{In, Linked, Unique, Member, Waiting, Chained, Woken}

@@ -1,5 +1,4 @@
 // Chains of numbers that wait: cleared, added to, and taken off.
-ghost use mathlib.Core.Path.{_≡_};
 ghost use Prim.Native.Nat.{_≤_, _<_};
 ghost use lib.ListN.{length};
 ghost use Rattle.waiting.specs.Links.{space, Fits, Cleared, Filed, Popped};
