@@ -1,10 +1,10 @@
--- `gridder_elastic::query::look` meets its contract. A valid table can be queried. Assumes nothing.
-use Rattle.gridder_elastic.specs.LentLaws.{lent-queried, look-is}
+-- `lent_elastic::query::look` meets its contract. A valid table can be queried. Assumes nothing.
+use Rattle.lent_elastic.specs.LentLaws.{lent-queried, look-is}
 use Rattle.elastic.specs.QueryLaws.{valid-levels}
 use native.Mathlib.Omega.{arith}
 use borrow.Author.Needs.{needs}
-use Rattle.gridder_elastic.proofs.query.look.Statement.{statement}
-use Rattle.gridder_elastic.proofs.query.look.Tie as tie
+use Rattle.lent_elastic.proofs.query.look.Statement.{statement}
+use Rattle.lent_elastic.proofs.query.look.Tie as tie
 
 elastic-key-requires : tie.Need-elastic-key-requires
 elastic-key-requires c κs = search needs
