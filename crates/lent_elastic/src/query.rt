@@ -7,7 +7,7 @@ ghost use Rattle.elastic.specs.Reading.{readingOf, holdsAt};
 ghost use Rattle.elastic_query.specs.Query.{positionsOf};
 ghost use Rattle.elastic_query.specs.QuerySteps.{from, Missed, Scanned, Scanning};
 ghost use Rattle.lent.specs.Lent.{wordsOf};
-ghost use Rattle.gridder_elastic.specs.Valid.{ValidLent, QueriedLent};
+ghost use Rattle.lent_elastic.specs.Valid.{ValidLent, QueriedLent};
 use crate::route::holds;
 use elastic::route::Reading;
 use elastic::route::route;

@@ -1,4 +1,4 @@
--- `gridder_elastic::query::descend` meets its contract. The loop's invariant: the walk from position 3 is that from this node on. Assumes nothing.
+-- `lent_elastic::query::descend` meets its contract. The loop's invariant: the walk from position 3 is that from this node on. Assumes nothing.
 use mathlib.Core.Path.{_≡_, sym, _∙_}
 use Prim.Native.Nat.{_-_, _+_}
 use native.Mathlib.Omega.{arith}

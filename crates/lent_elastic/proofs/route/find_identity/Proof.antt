@@ -1,4 +1,4 @@
--- `gridder_elastic::route::find_identity` meets its contract. Assumes nothing.
+-- `lent_elastic::route::find_identity` meets its contract. Assumes nothing.
 use Rattle.lent.specs.Lent.{wordsOf}
 use Prim.Native.Nat.{_≤_}
 use native.Mathlib.Omega.{arith}
@@ -7,8 +7,8 @@ use lib.ListN.{length}
 use Rattle.lent.specs.LentLaws.{length-whole}
 use Rattle.elastic.specs.ReadingLaws.{first-without}
 use borrow.Author.Needs.{needs}
-use Rattle.gridder_elastic.proofs.route.find_identity.Statement.{statement}
-use Rattle.gridder_elastic.proofs.route.find_identity.Tie as tie
+use Rattle.lent_elastic.proofs.route.find_identity.Statement.{statement}
+use Rattle.lent_elastic.proofs.route.find_identity.Tie as tie
 
 hits-requires : tie.Need-hits-requires
 hits-requires c κs = search needs

@@ -1,4 +1,4 @@
--- `gridder_elastic::query::along` meets its contract. The loop's invariant: the walk from the node's start is that from where i is tried. Assumes nothing.
+-- `lent_elastic::query::along` meets its contract. The loop's invariant: the walk from the node's start is that from where i is tried. Assumes nothing.
 use mathlib.Core.Path.{_≡_, refl, sym, _∙_}
 use Prim.Native.Nat.{ℕ, _-_, _+_, _<_}
 use native.Mathlib.Omega.{arith}

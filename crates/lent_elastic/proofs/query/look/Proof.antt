@@ -3,8 +3,8 @@ use Rattle.gridder_elastic.specs.LentLaws.{lent-queried, look-is}
 use Rattle.elastic_query.specs.QueryLaws.{valid-levels}
 use native.Mathlib.Omega.{arith}
 use borrow.Author.Needs.{needs}
-use Rattle.gridder_elastic.proofs.query.look.Statement.{statement}
-use Rattle.gridder_elastic.proofs.query.look.Tie as tie
+use Rattle.lent_elastic.proofs.query.look.Statement.{statement}
+use Rattle.lent_elastic.proofs.query.look.Tie as tie
 
 elastic-key-requires : tie.Need-elastic-key-requires
 elastic-key-requires c κs = search needs

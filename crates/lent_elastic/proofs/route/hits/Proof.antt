@@ -1,4 +1,4 @@
--- `gridder_elastic::route::hits` meets its contract. The loop's invariant: where nothing was found yet, no word so far is the identity. Assumes nothing.
+-- `lent_elastic::route::hits` meets its contract. The loop's invariant: where nothing was found yet, no word so far is the identity. Assumes nothing.
 use mathlib.Core.Path.{_≡_, _∙_}
 use Prim.Native.Nat.{_-_, _≤_}
 use native.Mathlib.Omega.{arith}
@@ -6,8 +6,8 @@ use borrow.Author.Needs.{needs}
 use Rattle.lent.specs.Lent.{wordsOf}
 use Rattle.elastic.specs.Reading.{Without}
 use Rattle.elastic.specs.ReadingLaws.{without-start, without-more}
-use Rattle.gridder_elastic.proofs.route.hits.Statement.{statement}
-use Rattle.gridder_elastic.proofs.route.hits.Tie as tie
+use Rattle.lent_elastic.proofs.route.hits.Statement.{statement}
+use Rattle.lent_elastic.proofs.route.hits.Tie as tie
 
 abbrev Inv-loop : tie.InvT-loop
 Inv-loop words n id found₀ i₀ found i = (found ≤ i) × (i ≤ n) × (found ≡ 0 → Without (wordsOf words) id i)

@@ -1,12 +1,12 @@
--- `gridder_elastic::query::find` meets its contract: the first position is a gap, and so is the second. Assumes nothing.
+-- `lent_elastic::query::find` meets its contract: the first position is a gap, and so is the second. Assumes nothing.
 use mathlib.Core.Path.{_≡_, sym, _∙_}
 use native.Mathlib.Omega.{arith}
 use Rattle.elastic.specs.ReadingLaws.{reading-read}
 use Rattle.gridder_elastic.specs.LentLaws.{read-within}
 use Rattle.elastic_query.specs.QueryLaws.{queried-probed, first-refused, first-hit, first-miss}
 use borrow.Author.Needs.{needs}
-use Rattle.gridder_elastic.proofs.query.find.Statement.{statement}
-use Rattle.gridder_elastic.proofs.query.find.Tie as tie
+use Rattle.lent_elastic.proofs.query.find.Statement.{statement}
+use Rattle.lent_elastic.proofs.query.find.Tie as tie
 
 route-requires : tie.Need-route-requires
 route-requires c κs = search needs

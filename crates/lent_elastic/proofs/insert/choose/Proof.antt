@@ -1,9 +1,9 @@
--- `gridder_elastic::insert::choose` meets its contract: each return is a law of the choice. Assumes nothing.
+-- `lent_elastic::insert::choose` meets its contract: each return is a law of the choice. Assumes nothing.
 use native.Mathlib.Omega.{arith}
 use Rattle.elastic_insert.specs.InsertLaws.{choose-duplicate, choose-exhausted, choose-steps, batch-code, valid-batch}
 use borrow.Author.Needs.{needs}
-use Rattle.gridder_elastic.proofs.insert.choose.Statement.{statement}
-use Rattle.gridder_elastic.proofs.insert.choose.Tie as tie
+use Rattle.lent_elastic.proofs.insert.choose.Statement.{statement}
+use Rattle.lent_elastic.proofs.insert.choose.Tie as tie
 
 find-identity-requires : tie.Need-find-identity-requires
 find-identity-requires c κs = search needs

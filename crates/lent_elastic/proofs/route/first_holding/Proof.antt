@@ -1,4 +1,4 @@
--- `gridder_elastic::route::first_holding` meets its contract. The loop's invariant: the scan from here on gives what the whole gives. Assumes nothing.
+-- `lent_elastic::route::first_holding` meets its contract. The loop's invariant: the scan from here on gives what the whole gives. Assumes nothing.
 use lib.ListN.{length}
 use denote.Ref.{now}
 use mathlib.Core.Path.{sym, _∙_}
@@ -7,8 +7,8 @@ use native.Mathlib.Omega.{arith}
 use Rattle.lent.specs.Lent.{wordsOf}
 use Rattle.lent.specs.LentLaws.{length-whole}
 use Rattle.elastic.specs.ReadingLaws.{Scanned, scanned-start, scanned-here, scanned-on, scanned-end}
-use Rattle.gridder_elastic.proofs.route.first_holding.Statement.{statement}
-use Rattle.gridder_elastic.proofs.route.first_holding.Tie as tie
+use Rattle.lent_elastic.proofs.route.first_holding.Statement.{statement}
+use Rattle.lent_elastic.proofs.route.first_holding.Tie as tie
 
 abbrev Inv-loop : tie.InvT-loop
 Inv-loop words flags id n i₀ i = Scanned (wordsOf words) flags id i

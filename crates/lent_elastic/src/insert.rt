@@ -4,7 +4,7 @@ ghost use mathlib.Core.Path.{_≡_};
 ghost use lib.ListN.{length};
 ghost use Rattle.elastic_insert.specs.Insert.{done, placeBy, chooseOf};
 ghost use Rattle.lent.specs.Lent.{wordsOf};
-ghost use Rattle.gridder_elastic.specs.Valid.{ValidLent};
+ghost use Rattle.lent_elastic.specs.Valid.{ValidLent};
 use crate::route::find_identity;
 use elastic::route::Located;
 use elastic::state::State;

@@ -1,8 +1,8 @@
--- `gridder_elastic::route::holds` meets its contract. Assumes nothing.
+-- `lent_elastic::route::holds` meets its contract. Assumes nothing.
 use Rattle.elastic.specs.ReadingLaws.{holds-vacant, holds-word}
 use borrow.Author.Needs.{needs}
-use Rattle.gridder_elastic.proofs.route.holds.Statement.{statement}
-use Rattle.gridder_elastic.proofs.route.holds.Tie as tie
+use Rattle.lent_elastic.proofs.route.holds.Statement.{statement}
+use Rattle.lent_elastic.proofs.route.holds.Tie as tie
 
 shared-slice-read-if1 : tie.Need-shared-slice-read-if1
 shared-slice-read-if1 c = search needs

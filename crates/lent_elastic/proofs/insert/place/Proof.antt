@@ -1,15 +1,15 @@
--- `gridder_elastic::insert::place` meets its contract: the slot that is chosen is vacant and lies in its level, so all writes are within bounds. Assumes nothing.
+-- `lent_elastic::insert::place` meets its contract: the slot that is chosen is vacant and lies in its level, so all writes are within bounds. Assumes nothing.
 use mathlib.Core.Path.{refl, sym, _∙_}
 use native.Mathlib.Omega.{arith}
 use denote.Ref.{now}
 use Prim.Native.Nat.{_+_, _*_, _≤_}
 use lib.ListN.{length}
-use Rattle.gridder_elastic.specs.LentLaws.{done-lent}
+use Rattle.lent_elastic.specs.LentLaws.{done-lent}
 use Rattle.elastic.specs.ReadingLaws.{probed-offset, probed-within}
 use Rattle.elastic_insert.specs.InsertLaws.{choose-taken, valid-searching, searching-probed, place-refused, place-position, place-inserted}
 use borrow.Author.Needs.{needs}
-use Rattle.gridder_elastic.proofs.insert.place.Statement.{statement}
-use Rattle.gridder_elastic.proofs.insert.place.Tie as tie
+use Rattle.lent_elastic.proofs.insert.place.Statement.{statement}
+use Rattle.lent_elastic.proofs.insert.place.Tie as tie
 
 choose-requires : tie.Need-choose-requires
 choose-requires c κs = search needs

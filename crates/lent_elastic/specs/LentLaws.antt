@@ -17,7 +17,7 @@ use Rattle.elastic_query.specs.declared.query.QueryAnswer.{QueryAnswer}
 use Rattle.elastic.specs.declared.state.State.{State}
 use Rattle.lent.specs.Lent.{wordsOf}
 use Rattle.lent.specs.LentLaws.{words-set}
-use Rattle.gridder_elastic.specs.Valid.{ValidLent, QueriedLent}
+use Rattle.lent_elastic.specs.Valid.{ValidLent, QueriedLent}
 
 -- eight bytes stored in a slot's place are its word stored
 pub done-lent : (r : InsertAnswer) (st : State) (cs words words' flags : List ℕ) (slot identity : ℕ) (x : Done) → words' ≡ sets words (slot * 8) (bytesOf 8 identity)
