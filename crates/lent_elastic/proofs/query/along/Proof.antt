@@ -6,10 +6,10 @@ use borrow.Author.Needs.{needs}
 use Rattle.elastic.specs.Reading.{readingOf, holdsAt}
 use Rattle.elastic.specs.ReadingLaws.{reading-read}
 use Rattle.lent.specs.Lent.{wordsOf}
-use Rattle.gridder_elastic.specs.LentLaws.{read-within}
+use Rattle.lent_elastic.specs.LentLaws.{read-within}
 use Rattle.elastic_query.specs.QueryLaws.{Turn, turning, queried-probed, charged-most, going-start, going-refused, going-hit, going-miss, going-end}
-use Rattle.gridder_elastic.proofs.query.along.Statement.{statement}
-use Rattle.gridder_elastic.proofs.query.along.Tie as tie
+use Rattle.lent_elastic.proofs.query.along.Statement.{statement}
+use Rattle.lent_elastic.proofs.query.along.Tie as tie
 
 fewer : (end i : ℕ) → i < end → end - (i + 1) < end - i
 fewer end i h = omega arith

@@ -6,8 +6,8 @@ use borrow.Author.Needs.{needs}
 use Rattle.elastic.specs.Reading.{readingOf, holdsAt}
 use Rattle.lent.specs.Lent.{wordsOf}
 use Rattle.elastic_query.specs.QueryLaws.{Walked, walked-start, walked-end, walked-scanning, walked-hit, walked-refused, hit-fits, walked-on}
-use Rattle.gridder_elastic.proofs.query.descend.Statement.{statement}
-use Rattle.gridder_elastic.proofs.query.descend.Tie as tie
+use Rattle.lent_elastic.proofs.query.descend.Statement.{statement}
+use Rattle.lent_elastic.proofs.query.descend.Tie as tie
 
 abbrev Inv-loop : tie.InvT-loop
 Inv-loop words flags look spent cap b₀ j₀ q₀ m₀ w₀ b j q m w = Walked (readingOf (look .n) (look .key) (look .«word_cap»)) (holdsAt (wordsOf words) flags (look .id)) (look .last + 1) (look .cap) spent b j q m w

@@ -2,7 +2,7 @@
 use mathlib.Core.Path.{_≡_, sym, _∙_}
 use native.Mathlib.Omega.{arith}
 use Rattle.elastic.specs.ReadingLaws.{reading-read}
-use Rattle.gridder_elastic.specs.LentLaws.{read-within}
+use Rattle.lent_elastic.specs.LentLaws.{read-within}
 use Rattle.elastic_query.specs.QueryLaws.{queried-probed, first-refused, first-hit, first-miss}
 use borrow.Author.Needs.{needs}
 use Rattle.lent_elastic.proofs.query.find.Statement.{statement}

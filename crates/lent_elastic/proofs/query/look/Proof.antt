@@ -1,5 +1,5 @@
--- `gridder_elastic::query::look` meets its contract. A valid table can be queried. Assumes nothing.
-use Rattle.gridder_elastic.specs.LentLaws.{lent-queried, look-is}
+-- `lent_elastic::query::look` meets its contract. A valid table can be queried. Assumes nothing.
+use Rattle.lent_elastic.specs.LentLaws.{lent-queried, look-is}
 use Rattle.elastic_query.specs.QueryLaws.{valid-levels}
 use native.Mathlib.Omega.{arith}
 use borrow.Author.Needs.{needs}
