@@ -35,7 +35,7 @@ use Rattle.gridder.specs.Calls.{left}
 use Rattle.gridder_elastic.specs.Calls.{callGate, stateGate, queryReply, queryCall, countedIn, insertLeft, insertCall}
 use Rattle.gridder_elastic.specs.Say.{insertFields, queryFields}
 use Rattle.gridder_elastic.specs.State.{holdsElastic, stateIn, countsIn, elasticBlock, withCountsIn}
-use Rattle.gridder_elastic.specs.Valid.{ValidLent}
+use Rattle.lent_elastic.specs.Valid.{ValidLent}
 
 -- ---- the gate
 

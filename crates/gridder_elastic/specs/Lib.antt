@@ -1,8 +1,6 @@
-pub mod Valid
 pub mod State
 pub mod Say
 pub mod Calls
-pub mod LentLaws
 pub mod StateLaws
 pub mod SayLaws
 pub mod CallLaws

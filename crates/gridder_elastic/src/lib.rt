@@ -1,8 +1,7 @@
 // The calls for C on elastic tables: open, insert, query. Carries the elastic part of request 1 of the changes after the base.
 //
-// Each call tests what it is lent, requires nothing, and answers as the calls of crate `gridder` do. An insertion chooses its slot by flags
-// alone, so the base's steps serve; only the scan for the identity and the reading of a slot are written again over words lent as bytes,
-// and with them the walk of the query.
+// Each call tests what it is lent, requires nothing, and answers as the calls of crate `gridder` do. Words are lent as little-endian bytes,
+// eight to a word, and crate `lent_elastic` inserts and queries over them; no table is copied.
 //
 // The state block, 2,048 bytes, of an elastic table:
 //
@@ -21,18 +20,12 @@
 //     80  mapped            88  gap
 //     96  free slots of the current level          104  of the next     112  budget
 //
-//     route.rt   whether a slot holds an identity, and the scan of all slots for one
-//     insert.rt  insertion into a valid table
-//     query.rt   query of a valid table
-//     state.rt   the state block
-//     say.rt     the answer block
-//     calls.rt   the exported calls
+//     state.rt  the state block
+//     say.rt    the answer block
+//     calls.rt  the exported calls
 //
 // specs/State.antt and Say.antt say what the blocks hold, Calls.antt what each call answers and leaves.
 
 pub mod calls;
-pub mod insert;
-pub mod query;
-pub mod route;
 pub mod say;
 pub mod state;

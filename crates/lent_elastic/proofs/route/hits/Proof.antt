@@ -1,0 +1,57 @@
+-- `lent_elastic::route::hits` meets its contract. The loop's invariant: where nothing was found yet, no word so far is the identity. Assumes nothing.
+use mathlib.Core.Path.{_≡_, _∙_}
+use Prim.Native.Nat.{_-_, _≤_}
+use native.Mathlib.Omega.{arith}
+use borrow.Author.Needs.{needs}
+use Rattle.lent.specs.Lent.{wordsOf}
+use Rattle.elastic.specs.Reading.{Without}
+use Rattle.elastic.specs.ReadingLaws.{without-start, without-more}
+use Rattle.lent_elastic.proofs.route.hits.Statement.{statement}
+use Rattle.lent_elastic.proofs.route.hits.Tie as tie
+
+abbrev Inv-loop : tie.InvT-loop
+Inv-loop words n id found₀ i₀ found i = (found ≤ i) × (i ≤ n) × (found ≡ 0 → Without (wordsOf words) id i)
+
+abbrev μ-loop : tie.MeasureT-loop
+μ-loop words n id found₀ i₀ found i = n - i
+
+loop-holds : tie.Need-loop-holds Inv-loop μ-loop
+loop-holds c = (omega arith, omega arith, λ z. without-start _ _)
+
+word-at-requires : tie.Need-word-at-requires Inv-loop μ-loop
+word-at-requires c κs = omega arith
+
+same-requires : tie.Need-same-requires Inv-loop μ-loop
+same-requires c κs = search needs
+
+add-found : tie.Need-add-found Inv-loop μ-loop
+add-found c = omega (arith, c .same .ensures .0, c .before .before .loop-test .taken)
+
+add-i : tie.Need-add-i Inv-loop μ-loop
+add-i c = omega arith
+
+loop-less : tie.Need-loop-less Inv-loop μ-loop
+loop-less c = omega arith
+
+loop-again : tie.Need-loop-again Inv-loop μ-loop
+loop-again c = (omega (arith, c .same .ensures .0), omega arith, λ z. without-more _ _ _ (c .before .before .before .loop .inv .2 (omega (arith, z))) (λ e. c .same .ensures .1 (omega (arith, z)) (c .before .word-at .ensures ∙ e)))
+
+returns : tie.Need-returns Inv-loop μ-loop
+returns c z = let v = c .before .loop .inv in
+    let e : c .before .loop .i ≡ c .before .before .before .args .n = omega arith in
+    rw (← e) (v .2 z)
+
+pub hits-spec : {M : Type 1} → statement M
+hits-spec =
+    tie.close
+    (tie.spec
+    Inv-loop
+    μ-loop
+    loop-holds
+    word-at-requires
+    same-requires
+    add-found
+    add-i
+    loop-less
+    loop-again
+    returns)

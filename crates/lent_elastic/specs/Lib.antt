@@ -1,0 +1,2 @@
+pub mod Valid
+pub mod LentLaws
