@@ -64,3 +64,6 @@ clean:
 	rm -rf $(OUT)
 
 .PHONY: all check demonstration install clean
+
+# Two runs of rt would prove the same crates in the same folder at a time.
+.NOTPARALLEL:

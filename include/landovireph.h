@@ -300,7 +300,7 @@ uint64_t landovireph_funnel_place_all(uint8_t *state, size_t state_bytes,
  * Whether some order of insertions into a fresh table leaves exactly these words and flags: 0 where one does, DISORDER where none
  * does. marks is n bytes, order n words lent as bytes. Both answers give placed, write 1 in the marks of the members that can be placed
  * and 0 in all others, and put the slots of the placed first in order, in an order that places them; the rest of order stays.
- * DISORDER also gives slot, the smallest occupied one that cannot be placed. The count in the state block plays no part.
+ * DISORDER also gives slot, the smallest occupied one that cannot be placed. A count of at most n in the state block plays no part.
  * Refusals: 1 to 7, STATE also where marks or order is not n long; DIRTY with slot; DISORDER.
  */
 uint64_t landovireph_funnel_check(const uint8_t *state, size_t state_bytes,
