@@ -1,10 +1,11 @@
 // The answer block: where each number of an answer lies in it (see lib.rt), written.
-ghost use mathlib.Core.List.{[]};
+ghost use mathlib.Core.List.{[], _∷_};
 ghost use mathlib.Core.Path.{_≡_};
+ghost use Prim.Native.Nat.{_+_, _≤_};
 ghost use lib.ListN.{length};
 ghost use Rattle.refusal.specs.Table.{numberOf, nameOf};
 ghost use Rattle.funnel.specs.Calls.{searchReport, insertionReport, placementReport};
-ghost use Rattle.gridder.specs.Answer.{stored, says, saying, placeFields, searchFields, insertionFields, placementFields, reply};
+ghost use Rattle.gridder.specs.Answer.{field, stored, says, saying, probesAt, bucketAt, withinAt, slotAt, foundAt, placedAt, placeFields, searchFields, insertionFields, placementFields, reply};
 use funnel::table::Insertion;
 use funnel::table::Placement;
 use funnel::table::Search;
@@ -54,25 +55,21 @@ pub fn say_search(answer: &mut [u8], found: Search) -> u64
     requires { ⌜ length (now answer) ≡ 128 ⌝ }
     ensures { λ r. ⌜ reply r (now (answer .exit)) ≡ reply (searchReport found .number) (says (searchFields found)) ⌝ }
 {
-    clear_bytes(answer);
     match found {
         Search::Hit { probes, place } => {
-            write64(answer, PROBES, probes);
-            write64(answer, FOUND, 1);
-            say_place(answer, place);
+            say_hit(answer, probes, place);
             0
         }
         Search::Vacant { probes, place } => {
-            write64(answer, PROBES, probes);
-            say_place(answer, place);
+            say_reached(answer, probes, place);
             0
         }
         Search::Full { probes } => {
-            write64(answer, PROBES, probes);
+            say_number(answer, PROBES, probes);
             number(Name::Full)
         }
         Search::Range(refusal) => {
-            write64(answer, WORDS, refusal.words);
+            say_number(answer, WORDS, refusal.words);
             number(Name::Range)
         }
     }
@@ -83,28 +80,25 @@ pub fn say_insertion(answer: &mut [u8], done: Insertion) -> u64
     requires { ⌜ length (now answer) ≡ 128 ⌝ }
     ensures { λ r. ⌜ reply r (now (answer .exit)) ≡ reply (insertionReport done .number) (says (insertionFields done)) ⌝ }
 {
-    clear_bytes(answer);
     match done {
         Insertion::Inserted { probes, place } => {
-            write64(answer, PROBES, probes);
-            say_place(answer, place);
+            say_reached(answer, probes, place);
             0
         }
         Insertion::Range(refusal) => {
-            write64(answer, WORDS, refusal.words);
+            say_number(answer, WORDS, refusal.words);
             number(Name::Range)
         }
         Insertion::Duplicate { probes, place } => {
-            write64(answer, PROBES, probes);
-            say_place(answer, place);
+            say_reached(answer, probes, place);
             number(Name::Duplicate)
         }
         Insertion::Exhausted { probes } => {
-            write64(answer, PROBES, probes);
+            say_number(answer, PROBES, probes);
             number(Name::Exhausted)
         }
         Insertion::Full { probes } => {
-            write64(answer, PROBES, probes);
+            say_number(answer, PROBES, probes);
             number(Name::Full)
         }
     }
@@ -115,28 +109,64 @@ pub fn say_placement(answer: &mut [u8], done: Placement, total: u64) -> u64
     requires { ⌜ length (now answer) ≡ 128 ⌝ }
     ensures { λ r. ⌜ reply r (now (answer .exit)) ≡ reply (placementReport done .number) (says (placementFields done total)) ⌝ }
 {
-    clear_bytes(answer);
     match done {
         Placement::All => {
-            write64(answer, PLACED, total);
+            say_number(answer, PLACED, total);
             0
         }
         Placement::Range { index, refusal } => {
-            write64(answer, PLACED, index);
-            write64(answer, WORDS, refusal.words);
+            say_stop(answer, index, WORDS, refusal.words);
             number(Name::Range)
         }
         Placement::Exhausted { index, probes } => {
-            write64(answer, PLACED, index);
-            write64(answer, PROBES, probes);
+            say_stop(answer, index, PROBES, probes);
             number(Name::Exhausted)
         }
         Placement::Full { index, probes } => {
-            write64(answer, PLACED, index);
-            write64(answer, PROBES, probes);
+            say_stop(answer, index, PROBES, probes);
             number(Name::Full)
         }
     }
+}
+
+// One number alone.
+fn say_number(answer: &mut [u8], at: usize, value: u64)
+    requires { ⌜ (length (now answer) ≡ 128) × (at + 8 ≤ 128) ⌝ }
+    ensures { λ r. ⌜ now (answer .exit) ≡ says (field at value ∷ []) ⌝ }
+{
+    clear_bytes(answer);
+    write64(answer, at, value);
+}
+
+// How many identities were placed, and a number of the refusal that ended it.
+fn say_stop(answer: &mut [u8], placed: u64, at: usize, value: u64)
+    requires { ⌜ (length (now answer) ≡ 128) × (at + 8 ≤ 128) ⌝ }
+    ensures { λ r. ⌜ now (answer .exit) ≡ says (field placedAt placed ∷ field at value ∷ []) ⌝ }
+{
+    clear_bytes(answer);
+    write64(answer, PLACED, placed);
+    write64(answer, at, value);
+}
+
+// A place and the probes it took.
+fn say_reached(answer: &mut [u8], probes: u64, place: Place)
+    requires { ⌜ length (now answer) ≡ 128 ⌝ }
+    ensures { λ r. ⌜ now (answer .exit) ≡ says (field probesAt probes ∷ placeFields place) ⌝ }
+{
+    clear_bytes(answer);
+    write64(answer, PROBES, probes);
+    say_place(answer, place);
+}
+
+// The same where a search met the identity.
+fn say_hit(answer: &mut [u8], probes: u64, place: Place)
+    requires { ⌜ length (now answer) ≡ 128 ⌝ }
+    ensures { λ r. ⌜ now (answer .exit) ≡ says (field probesAt probes ∷ field foundAt 1 ∷ placeFields place) ⌝ }
+{
+    clear_bytes(answer);
+    write64(answer, PROBES, probes);
+    write64(answer, FOUND, 1);
+    say_place(answer, place);
 }
 
 // A place, over what the block holds.
@@ -153,9 +183,7 @@ fn say_place(answer: &mut [u8], place: Place)
         } => {
             write64(answer, KIND, 1);
             write64(answer, LEVEL, level);
-            write64(answer, BUCKET, bucket);
-            write64(answer, WITHIN, slot_in_bucket);
-            write64(answer, SLOT, global_slot.0);
+            say_within(answer, bucket, slot_in_bucket, global_slot.0);
         }
         Place::SpecialPrimary { slot, global_slot } => {
             write64(answer, KIND, 2);
@@ -168,9 +196,17 @@ fn say_place(answer: &mut [u8], place: Place)
             global_slot,
         } => {
             write64(answer, KIND, 3);
-            write64(answer, BUCKET, bucket);
-            write64(answer, WITHIN, slot_in_bucket);
-            write64(answer, SLOT, global_slot.0);
+            say_within(answer, bucket, slot_in_bucket, global_slot.0);
         }
     }
+}
+
+// A bucket, the slot in it and the global slot, over what the block holds.
+fn say_within(answer: &mut [u8], bucket: u64, within: u64, slot: u64)
+    requires { ⌜ length (now answer) ≡ 128 ⌝ }
+    ensures { λ r. ⌜ now (answer .exit) ≡ stored (now (answer .entry)) (field bucketAt bucket ∷ field withinAt within ∷ field slotAt slot ∷ []) ⌝ }
+{
+    write64(answer, BUCKET, bucket);
+    write64(answer, WITHIN, within);
+    write64(answer, SLOT, slot);
 }

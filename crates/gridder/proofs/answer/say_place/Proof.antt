@@ -13,6 +13,12 @@ write64-requires c κs = search needs
 write64-requires-2 : tie.Need-write64-requires-2
 write64-requires-2 c κs = search needs
 
+say-within-requires : tie.Need-say-within-requires
+say-within-requires c κs = search needs
+
+enum-known-place-2 : tie.Need-enum-known-place-2
+enum-known-place-2 c = search needs
+
 write64-requires-3 : tie.Need-write64-requires-3
 write64-requires-3 c κs = search needs
 
@@ -22,39 +28,21 @@ write64-requires-4 c κs = search needs
 write64-requires-5 : tie.Need-write64-requires-5
 write64-requires-5 c κs = search needs
 
-enum-known-place-2 : tie.Need-enum-known-place-2
-enum-known-place-2 c = search needs
+enum-known-place-3 : tie.Need-enum-known-place-3
+enum-known-place-3 c = search needs
 
 write64-requires-6 : tie.Need-write64-requires-6
 write64-requires-6 c κs = search needs
 
-write64-requires-7 : tie.Need-write64-requires-7
-write64-requires-7 c κs = search needs
-
-write64-requires-8 : tie.Need-write64-requires-8
-write64-requires-8 c κs = search needs
-
-enum-known-place-3 : tie.Need-enum-known-place-3
-enum-known-place-3 c = search needs
-
-write64-requires-9 : tie.Need-write64-requires-9
-write64-requires-9 c κs = search needs
-
-write64-requires-10 : tie.Need-write64-requires-10
-write64-requires-10 c κs = search needs
-
-write64-requires-11 : tie.Need-write64-requires-11
-write64-requires-11 c κs = search needs
-
-write64-requires-12 : tie.Need-write64-requires-12
-write64-requires-12 c κs = search needs
+say-within-requires-2 : tie.Need-say-within-requires-2
+say-within-requires-2 c κs = search needs
 
 same-length : tie.Need-same-length
 same-length c = search needs
 
 returns : tie.Need-returns
 unfolding stored placeFields
-returns c = rw (c .before .before .before .before .before .before .before .before .before .before .before .before .before .before .before .before .before .before .before .before .before .place .given .1) cc
+returns c = rw (c .before .before .before .before .before .before .before .before .before .before .before .before .before .place .given .1) cc
 
 same-length-2 : tie.Need-same-length-2
 same-length-2 c = search needs
@@ -68,7 +56,7 @@ same-length-3 c = search needs
 
 returns-3 : tie.Need-returns-3
 unfolding stored placeFields
-returns-3 c = rw (c .before .before .before .before .before .before .before .before .before .before .before .before .before .before .before .before .before .place3 .given .1) cc
+returns-3 c = rw (c .before .before .before .before .before .before .before .before .before .place3 .given .1) cc
 
 pub say-place-spec : {M : Type 1} → statement M
 say-place-spec =
@@ -77,18 +65,14 @@ say-place-spec =
     enum-known-place
     write64-requires
     write64-requires-2
+    say-within-requires
+    enum-known-place-2
     write64-requires-3
     write64-requires-4
     write64-requires-5
-    enum-known-place-2
-    write64-requires-6
-    write64-requires-7
-    write64-requires-8
     enum-known-place-3
-    write64-requires-9
-    write64-requires-10
-    write64-requires-11
-    write64-requires-12
+    write64-requires-6
+    say-within-requires-2
     same-length
     returns
     same-length-2

@@ -1,39 +1,27 @@
--- `gridder::answer::say_search` meets its contract. Case by case: zeros, and then the numbers of the case. Assumes nothing.
+-- `gridder::answer::say_search` meets its contract. Case by case. Assumes nothing.
 use mathlib.Core.Path.{refl}
-use Rattle.gridder.specs.AnswerLaws.{said-one, said-place, said-two, search-says}
+use Rattle.gridder.specs.AnswerLaws.{search-says}
 use borrow.Author.Needs.{needs}
 use Rattle.gridder.proofs.answer.say_search.Statement.{statement}
 use Rattle.gridder.proofs.answer.say_search.Tie as tie
 
-clear-bytes-requires : tie.Need-clear-bytes-requires
-clear-bytes-requires c κs = search needs
-
 enum-known-found : tie.Need-enum-known-found
 enum-known-found c = search needs
 
-write64-requires : tie.Need-write64-requires
-write64-requires c κs = search needs
-
-write64-requires-2 : tie.Need-write64-requires-2
-write64-requires-2 c κs = search needs
-
-say-place-requires : tie.Need-say-place-requires
-say-place-requires c κs = search needs
+say-hit-requires : tie.Need-say-hit-requires
+say-hit-requires c κs = search needs
 
 enum-known-found-2 : tie.Need-enum-known-found-2
 enum-known-found-2 c = search needs
 
-write64-requires-3 : tie.Need-write64-requires-3
-write64-requires-3 c κs = search needs
-
-say-place-requires-2 : tie.Need-say-place-requires-2
-say-place-requires-2 c κs = search needs
+say-reached-requires : tie.Need-say-reached-requires
+say-reached-requires c κs = search needs
 
 enum-known-found-3 : tie.Need-enum-known-found-3
 enum-known-found-3 c = search needs
 
-write64-requires-4 : tie.Need-write64-requires-4
-write64-requires-4 c κs = search needs
+say-number-requires : tie.Need-say-number-requires
+say-number-requires c κs = search needs
 
 number-requires : tie.Need-number-requires
 number-requires c κs = search needs
@@ -41,8 +29,8 @@ number-requires c κs = search needs
 enum-known-found-4 : tie.Need-enum-known-found-4
 enum-known-found-4 c = search needs
 
-write64-requires-5 : tie.Need-write64-requires-5
-write64-requires-5 c κs = search needs
+say-number-requires-2 : tie.Need-say-number-requires-2
+say-number-requires-2 c κs = search needs
 
 number-requires-2 : tie.Need-number-requires-2
 number-requires-2 c κs = search needs
@@ -51,43 +39,39 @@ same-length : tie.Need-same-length
 same-length c = search needs
 
 returns : tie.Need-returns
-returns c = search-says _ _ _ _ (c .before .before .before .before .before .before .before .before .before .before .before .before .before .found .given .1) refl (said-two _ _ (c .before .before .before .before .before .before .before .before .before .before .before .before .before .before .before .before .before .before .before .before .pre) (c .before .before .before .before .before .before .before .before .before .before .before .before .before .before .before .before .before .clear-bytes .ensures) _ _ _ _ _ _ _ _ (c .before .before .before .before .before .before .before .before .before .before .write64 .ensures) (c .before .before .before .before .before .before .write642 .ensures) (c .before .before .say-place .ensures))
+returns c = search-says _ _ _ _ (c .before .before .before .before .before .found .given .1) refl (c .before .before .say-hit .ensures)
 
 same-length-2 : tie.Need-same-length-2
 same-length-2 c = search needs
 
 returns-2 : tie.Need-returns-2
-returns-2 c = search-says _ _ _ _ (c .before .before .before .before .before .before .before .before .before .found2 .given .1) refl (said-place _ _ (c .before .before .before .before .before .before .before .before .before .before .before .before .before .before .before .before .pre) (c .before .before .before .before .before .before .before .before .before .before .before .before .before .clear-bytes .ensures) _ _ _ _ _ (c .before .before .before .before .before .before .write643 .ensures) (c .before .before .say-place2 .ensures))
+returns-2 c = search-says _ _ _ _ (c .before .before .before .before .before .found2 .given .1) refl (c .before .before .say-reached .ensures)
 
 same-length-3 : tie.Need-same-length-3
 same-length-3 c = search needs
 
 returns-3 : tie.Need-returns-3
-returns-3 c = search-says _ _ _ _ (c .before .before .before .before .before .before .found3 .given .1) (c .number .ensures) (said-one _ _ (c .before .before .before .before .before .before .before .before .before .before .before .before .before .pre) (c .before .before .before .before .before .before .before .before .before .before .clear-bytes .ensures) _ _ _ (c .before .before .before .write644 .ensures))
+returns-3 c = search-says _ _ _ _ (c .before .before .before .before .before .before .found3 .given .1) (c .number .ensures) (c .before .before .before .say-number .ensures)
 
 same-length-4 : tie.Need-same-length-4
 same-length-4 c = search needs
 
 returns-4 : tie.Need-returns-4
-returns-4 c = search-says _ _ _ _ (c .before .before .before .before .before .before .found4 .given .1) (c .number2 .ensures) (said-one _ _ (c .before .before .before .before .before .before .before .before .before .before .before .before .before .pre) (c .before .before .before .before .before .before .before .before .before .before .clear-bytes .ensures) _ _ _ (c .before .before .before .write645 .ensures))
+returns-4 c = search-says _ _ _ _ (c .before .before .before .before .before .before .found4 .given .1) (c .number2 .ensures) (c .before .before .before .say-number2 .ensures)
 
 pub say-search-spec : {M : Type 1} → statement M
 say-search-spec =
     tie.close
     (tie.spec
-    clear-bytes-requires
     enum-known-found
-    write64-requires
-    write64-requires-2
-    say-place-requires
+    say-hit-requires
     enum-known-found-2
-    write64-requires-3
-    say-place-requires-2
+    say-reached-requires
     enum-known-found-3
-    write64-requires-4
+    say-number-requires
     number-requires
     enum-known-found-4
-    write64-requires-5
+    say-number-requires-2
     number-requires-2
     same-length
     returns

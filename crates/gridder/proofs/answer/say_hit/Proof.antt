@@ -1,0 +1,34 @@
+-- `gridder::answer::say_hit` meets its contract. Zeros, two numbers, and then the place. Assumes nothing.
+use Rattle.gridder.specs.AnswerLaws.{said-two}
+use borrow.Author.Needs.{needs}
+use Rattle.gridder.proofs.answer.say_hit.Statement.{statement}
+use Rattle.gridder.proofs.answer.say_hit.Tie as tie
+
+clear-bytes-requires : tie.Need-clear-bytes-requires
+clear-bytes-requires c κs = search needs
+
+write64-requires : tie.Need-write64-requires
+write64-requires c κs = search needs
+
+write64-requires-2 : tie.Need-write64-requires-2
+write64-requires-2 c κs = search needs
+
+say-place-requires : tie.Need-say-place-requires
+say-place-requires c κs = search needs
+
+same-length : tie.Need-same-length
+same-length c = search needs
+
+returns : tie.Need-returns
+returns c = said-two _ _ (c .before .before .before .before .before .before .before .before .before .before .before .before .before .before .before .before .before .pre) (c .before .before .before .before .before .before .before .before .before .before .before .before .before .before .clear-bytes .ensures) _ _ _ _ _ _ _ _ (c .before .before .before .before .before .before .before .before .before .before .write64 .ensures) (c .before .before .before .before .before .before .write642 .ensures) (c .before .before .say-place .ensures)
+
+pub say-hit-spec : {M : Type 1} → statement M
+say-hit-spec =
+    tie.close
+    (tie.spec
+    clear-bytes-requires
+    write64-requires
+    write64-requires-2
+    say-place-requires
+    same-length
+    returns)
