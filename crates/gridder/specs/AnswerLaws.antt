@@ -6,12 +6,11 @@ use lib.ListN.{length, replicate}
 use lib.Seq.{sets}
 use borrow.Author.Tests.{eq-eqb, ne-eqb}
 use Rattle.words.specs.Bytes.{bytesOf}
-use Rattle.words.specs.declared.place.Place.{Place}
 use Rattle.funnel.specs.Calls.{searchReport, insertionReport, placementReport}
 use Rattle.funnel.specs.declared.table.Search.{Search}
 use Rattle.funnel.specs.declared.table.Insertion.{Insertion}
 use Rattle.funnel.specs.declared.table.Placement.{Placement}
-use Rattle.gridder.specs.Answer.{answerLength, Field, field, stored, says, placeFields, searchFields, insertionFields, placementFields, Reply, reply, saying}
+use Rattle.gridder.specs.Answer.{answerLength, Field, field, stored, says, searchFields, insertionFields, placementFields, Reply, reply, saying}
 
 pub reply-is : (m n : ℕ) (a b : List ℕ) → m ≡ n → a ≡ b → reply m a ≡ reply n b
 reply-is m n a b e f = rw (e, f)
@@ -31,25 +30,24 @@ module _ (before : List ℕ) (fields : List Field) where
   unfolding saying
   saying-says e = sym (rw (eq-eqb _ _ e))
 
--- ---- a block that was zeroed and then written
+-- ---- a block that is written, number by number
 
-module _ (n : ℕ) (zeros : List ℕ) (long : n ≡ answerLength) (cleared : zeros ≡ replicate n 0) where
-  pub said-one : (at x : ℕ) (a : List ℕ) → a ≡ sets zeros at (bytesOf 8 x) → a ≡ says (field at x ∷ [])
-  unfolding says stored
-  said-one at x a e = e ∙ rw (cleared, long)
+-- a number, and then the others
+module _ (a b : List ℕ) (f : Field) where
+  pub stored-first : (d : List ℕ) (fields : List Field) → b ≡ sets a (f .at) (bytesOf 8 (f .value)) → d ≡ stored b fields → d ≡ stored a (f ∷ fields)
+  unfolding stored
+  stored-first d fields e g = g ∙ rw e
 
-  pub said-both : (at x to y : ℕ) (a b : List ℕ) → a ≡ sets zeros at (bytesOf 8 x) → b ≡ sets a to (bytesOf 8 y) → b ≡ says (field at x ∷ field to y ∷ [])
-  unfolding says stored
-  said-both at x to y a b e f = f ∙ rw (e, cleared, long)
+  -- the last number
+  pub stored-last : b ≡ sets a (f .at) (bytesOf 8 (f .value)) → b ≡ stored a (f ∷ [])
+  unfolding stored
+  stored-last e = e
 
-  pub said-place : (at x : ℕ) (p : Place) (a b : List ℕ) → a ≡ sets zeros at (bytesOf 8 x) → b ≡ stored a (placeFields p) → b ≡ says (field at x ∷ placeFields p)
-  unfolding says stored
-  said-place at x p a b e f = f ∙ rw (e, cleared, long)
-
-  pub said-two : (at x to y : ℕ) (p : Place) (a b d : List ℕ) → a ≡ sets zeros at (bytesOf 8 x) → b ≡ sets a to (bytesOf 8 y) → d ≡ stored b (placeFields p)
-      → d ≡ says (field at x ∷ field to y ∷ placeFields p)
-  unfolding says stored
-  said-two at x to y p a b d e f g = g ∙ rw (f, e, cleared, long)
+-- a block that was zeroed, and then written
+module _ (n : ℕ) (zeros d : List ℕ) (fields : List Field) where
+  pub said : n ≡ answerLength → zeros ≡ replicate n 0 → d ≡ stored zeros fields → d ≡ says fields
+  unfolding says
+  said long cleared g = g ∙ rw (cleared, long)
 
 -- ---- what a search, an insertion and a placement say, by their answer
 

@@ -5,7 +5,7 @@ ghost use Prim.Native.Nat.{_+_, _≤_};
 ghost use lib.ListN.{length};
 ghost use Rattle.refusal.specs.Table.{numberOf, nameOf};
 ghost use Rattle.funnel.specs.Calls.{searchReport, insertionReport, placementReport};
-ghost use Rattle.gridder.specs.Answer.{field, stored, says, saying, probesAt, bucketAt, withinAt, slotAt, foundAt, placedAt, placeFields, searchFields, insertionFields, placementFields, reply};
+ghost use Rattle.gridder.specs.Answer.{field, stored, says, saying, probesAt, bucketAt, withinAt, slotAt, foundAt, placeFields, searchFields, insertionFields, placementFields, reply};
 use funnel::table::Insertion;
 use funnel::table::Placement;
 use funnel::table::Search;
@@ -115,37 +115,37 @@ pub fn say_placement(answer: &mut [u8], done: Placement, total: u64) -> u64
             0
         }
         Placement::Range { index, refusal } => {
-            say_stop(answer, index, WORDS, refusal.words);
+            say_both(answer, PLACED, index, WORDS, refusal.words);
             number(Name::Range)
         }
         Placement::Exhausted { index, probes } => {
-            say_stop(answer, index, PROBES, probes);
+            say_both(answer, PLACED, index, PROBES, probes);
             number(Name::Exhausted)
         }
         Placement::Full { index, probes } => {
-            say_stop(answer, index, PROBES, probes);
+            say_both(answer, PLACED, index, PROBES, probes);
             number(Name::Full)
         }
     }
 }
 
 // One number alone.
-fn say_number(answer: &mut [u8], at: usize, value: u64)
+pub fn say_number(answer: &mut [u8], at: usize, x: u64)
     requires { ⌜ (length (now answer) ≡ 128) × (at + 8 ≤ 128) ⌝ }
-    ensures { λ r. ⌜ now (answer .exit) ≡ says (field at value ∷ []) ⌝ }
+    ensures { λ r. ⌜ now (answer .exit) ≡ says (field at x ∷ []) ⌝ }
 {
     clear_bytes(answer);
-    write64(answer, at, value);
+    write64(answer, at, x);
 }
 
-// How many identities were placed, and a number of the refusal that ended it.
-fn say_stop(answer: &mut [u8], placed: u64, at: usize, value: u64)
-    requires { ⌜ (length (now answer) ≡ 128) × (at + 8 ≤ 128) ⌝ }
-    ensures { λ r. ⌜ now (answer .exit) ≡ says (field placedAt placed ∷ field at value ∷ []) ⌝ }
+// Two numbers alone.
+pub fn say_both(answer: &mut [u8], at: usize, x: u64, to: usize, y: u64)
+    requires { ⌜ (length (now answer) ≡ 128) × (at + 8 ≤ 128) × (to + 8 ≤ 128) ⌝ }
+    ensures { λ r. ⌜ now (answer .exit) ≡ says (field at x ∷ field to y ∷ []) ⌝ }
 {
     clear_bytes(answer);
-    write64(answer, PLACED, placed);
-    write64(answer, at, value);
+    write64(answer, at, x);
+    write64(answer, to, y);
 }
 
 // A place and the probes it took.

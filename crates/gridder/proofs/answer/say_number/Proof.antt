@@ -1,5 +1,5 @@
 -- `gridder::answer::say_number` meets its contract. Zeros, and then the number. Assumes nothing.
-use Rattle.gridder.specs.AnswerLaws.{said-one}
+use Rattle.gridder.specs.AnswerLaws.{stored-last, said}
 use borrow.Author.Needs.{needs}
 use Rattle.gridder.proofs.answer.say_number.Statement.{statement}
 use Rattle.gridder.proofs.answer.say_number.Tie as tie
@@ -14,7 +14,7 @@ same-length : tie.Need-same-length
 same-length c = search needs
 
 returns : tie.Need-returns
-returns c = said-one _ _ (c .before .before .before .before .before .before .before .before .before .pre .0) (c .before .before .before .before .before .before .clear-bytes .ensures) _ _ _ (c .before .before .write64 .ensures)
+returns c = said _ _ _ _ (c .before .before .before .before .before .before .before .before .before .pre .0) (c .before .before .before .before .before .before .clear-bytes .ensures) (stored-last _ _ _ (c .before .before .write64 .ensures))
 
 pub say-number-spec : {M : Type 1} → statement M
 say-number-spec = tie.close (tie.spec clear-bytes-requires write64-requires same-length returns)

@@ -1,5 +1,6 @@
 -- `gridder::answer::say_place` meets its contract. Case by case. Assumes nothing.
-use Rattle.gridder.specs.Answer.{stored, placeFields}
+use Rattle.gridder.specs.AnswerLaws.{stored-first, stored-last}
+use Rattle.gridder.specs.Answer.{placeFields}
 use borrow.Author.Needs.{needs}
 use Rattle.gridder.proofs.answer.say_place.Statement.{statement}
 use Rattle.gridder.proofs.answer.say_place.Tie as tie
@@ -41,22 +42,22 @@ same-length : tie.Need-same-length
 same-length c = search needs
 
 returns : tie.Need-returns
-unfolding stored placeFields
-returns c = rw (c .before .before .before .before .before .before .before .before .before .before .before .before .before .place .given .1) cc
+unfolding placeFields
+returns c = rw (c .before .before .before .before .before .before .before .before .before .before .before .before .before .place .given .1) (stored-first _ _ _ _ _ (c .before .before .before .before .before .before .before .before .before .before .write64 .ensures) (stored-first _ _ _ _ _ (c .before .before .before .before .before .before .write642 .ensures) (c .before .before .say-within .ensures)))
 
 same-length-2 : tie.Need-same-length-2
 same-length-2 c = search needs
 
 returns-2 : tie.Need-returns-2
-unfolding stored placeFields
-returns-2 c = rw (c .before .before .before .before .before .before .before .before .before .before .before .before .before .place2 .given .1) cc
+unfolding placeFields
+returns-2 c = rw (c .before .before .before .before .before .before .before .before .before .before .before .before .before .place2 .given .1) (stored-first _ _ _ _ _ (c .before .before .before .before .before .before .before .before .before .before .write643 .ensures) (stored-first _ _ _ _ _ (c .before .before .before .before .before .before .write644 .ensures) (stored-last _ _ _ (c .before .before .write645 .ensures))))
 
 same-length-3 : tie.Need-same-length-3
 same-length-3 c = search needs
 
 returns-3 : tie.Need-returns-3
-unfolding stored placeFields
-returns-3 c = rw (c .before .before .before .before .before .before .before .before .before .place3 .given .1) cc
+unfolding placeFields
+returns-3 c = rw (c .before .before .before .before .before .before .before .before .before .place3 .given .1) (stored-first _ _ _ _ _ (c .before .before .before .before .before .before .write646 .ensures) (c .before .before .say-within2 .ensures))
 
 pub say-place-spec : {M : Type 1} → statement M
 say-place-spec =

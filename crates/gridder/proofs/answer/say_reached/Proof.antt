@@ -1,5 +1,5 @@
 -- `gridder::answer::say_reached` meets its contract. Zeros, the probes, and then the place. Assumes nothing.
-use Rattle.gridder.specs.AnswerLaws.{said-place}
+use Rattle.gridder.specs.AnswerLaws.{stored-first, said}
 use borrow.Author.Needs.{needs}
 use Rattle.gridder.proofs.answer.say_reached.Statement.{statement}
 use Rattle.gridder.proofs.answer.say_reached.Tie as tie
@@ -17,7 +17,7 @@ same-length : tie.Need-same-length
 same-length c = search needs
 
 returns : tie.Need-returns
-returns c = said-place _ _ (c .before .before .before .before .before .before .before .before .before .before .before .before .before .pre) (c .before .before .before .before .before .before .before .before .before .before .clear-bytes .ensures) _ _ _ _ _ (c .before .before .before .before .before .before .write64 .ensures) (c .before .before .say-place .ensures)
+returns c = said _ _ _ _ (c .before .before .before .before .before .before .before .before .before .before .before .before .before .pre) (c .before .before .before .before .before .before .before .before .before .before .clear-bytes .ensures) (stored-first _ _ _ _ _ (c .before .before .before .before .before .before .write64 .ensures) (c .before .before .say-place .ensures))
 
 pub say-reached-spec : {M : Type 1} → statement M
 say-reached-spec =

@@ -1,5 +1,5 @@
 -- `gridder::answer::say_within` meets its contract. One number after the other. Assumes nothing.
-use Rattle.gridder.specs.Answer.{stored}
+use Rattle.gridder.specs.AnswerLaws.{stored-first, stored-last}
 use borrow.Author.Needs.{needs}
 use Rattle.gridder.proofs.answer.say_within.Statement.{statement}
 use Rattle.gridder.proofs.answer.say_within.Tie as tie
@@ -17,8 +17,7 @@ same-length : tie.Need-same-length
 same-length c = search needs
 
 returns : tie.Need-returns
-unfolding stored
-returns c = cc
+returns c = stored-first _ _ _ _ _ (c .before .before .before .before .before .before .before .before .before .before .write64 .ensures) (stored-first _ _ _ _ _ (c .before .before .before .before .before .before .write642 .ensures) (stored-last _ _ _ (c .before .before .write643 .ensures)))
 
 pub say-within-spec : {M : Type 1} → statement M
 say-within-spec =
