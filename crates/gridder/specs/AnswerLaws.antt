@@ -30,6 +30,10 @@ module _ (before : List ℕ) (fields : List Field) where
   unfolding saying
   saying-says e = sym (rw (eq-eqb _ _ e))
 
+-- a refusal of the gate, in a block that has its length
+pub gate-says : (m n : ℕ) (before a : List ℕ) → length before ≡ answerLength → reply m a ≡ reply n (saying before []) → reply m a ≡ reply n (says [])
+gate-says m n before a long e = e ∙ rw (sym (saying-says before [] long))
+
 -- ---- a block that is written, number by number
 
 -- a number, and then the others

@@ -20,21 +20,21 @@ use words::place::Place;
 // "a lent 128-byte block"
 pub const ANSWER_LENGTH: usize = 128;
 
-const PROBES: usize = 0;
+pub const PROBES: usize = 0;
 
-const KIND: usize = 8;
+pub const KIND: usize = 8;
 
-const LEVEL: usize = 16;
+pub const LEVEL: usize = 16;
 
-const BUCKET: usize = 24;
+pub const BUCKET: usize = 24;
 
-const WITHIN: usize = 32;
+pub const WITHIN: usize = 32;
 
 pub const SLOT: usize = 40;
 
-const WORDS: usize = 48;
+pub const WORDS: usize = 48;
 
-const FOUND: usize = 56;
+pub const FOUND: usize = 56;
 
 pub const PLACED: usize = 64;
 

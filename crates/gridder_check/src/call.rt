@@ -14,17 +14,16 @@ use geometry::config::Gated;
 use gridder::answer::ANSWER_LENGTH;
 use gridder::answer::PLACED;
 use gridder::answer::SLOT;
+use gridder::answer::say_both;
 use gridder::answer::say_gate;
+use gridder::answer::say_number;
 use gridder::state::read_counts;
 use gridder::state::table_in;
 use lent::word::word_count;
 use lent_check::check::audit;
 use refusal::Gate;
 use refusal::Name;
-use refusal::gate_name;
 use refusal::number;
-use words::bytes::write64;
-use words::clear::clear_bytes;
 
 pub fn check_in(
     state: &[u8],
@@ -78,21 +77,19 @@ fn say_checked(answer: &mut [u8], done: Checked) -> u64
     requires { ⌜ length (now answer) ≡ 128 ⌝ }
     ensures { λ r. ⌜ reply r (now (answer .exit)) ≡ reply (reportOf done .number) (says (checkedFields done)) ⌝ }
 {
-    clear_bytes(answer);
     match done {
         Checked::Accepted { placed } => {
-            write64(answer, PLACED, placed);
+            say_number(answer, PLACED, placed);
             0
         }
         Checked::Disorder { placed, slot } => {
-            write64(answer, PLACED, placed);
-            write64(answer, SLOT, slot);
+            say_both(answer, PLACED, placed, SLOT, slot);
             number(Name::Disorder)
         }
         Checked::Dirty { slot } => {
-            write64(answer, SLOT, slot);
+            say_number(answer, SLOT, slot);
             number(Name::Dirty)
         }
-        Checked::Gate(g) => number(gate_name(g)),
+        Checked::Gate(g) => say_gate(answer, g),
     }
 }

@@ -1,23 +1,14 @@
 -- Laws of what the calls on images say. Assumes nothing.
-use mathlib.Core.List.{List, [], _∷_}
-use mathlib.Core.Path.{_≡_, refl, _∙_}
+use mathlib.Core.List.{List}
+use mathlib.Core.Path.{_≡_, refl}
 use Prim.Native.Nat.{ℕ}
-use lib.ListN.{replicate}
-use lib.Seq.{sets}
-use Rattle.words.specs.Bytes.{bytesOf}
 use Rattle.funnel.specs.declared.table.FunnelTable.{FunnelTable}
 use Rattle.image_calls.specs.Calls.{loadedOf, loadedReport, writtenReport}
 use Rattle.image_calls.specs.declared.loader.Filled.{Filled}
 use Rattle.image_calls.specs.declared.loader.Filled.the-variants as filled
 use Rattle.image_calls.specs.declared.writer.Written.{Written}
-use Rattle.gridder.specs.Answer.{answerLength, field, stored, says, reply}
+use Rattle.gridder.specs.Answer.{says, reply}
 use Rattle.gridder_images.specs.Say.{filledFields, filledNumber, writtenFields}
-
--- a block that was zeroed and then written twice
-pub said-pair : (n : ℕ) (zeros : List ℕ) → n ≡ answerLength → zeros ≡ replicate n 0 → (at x to y : ℕ) (a b : List ℕ) → a ≡ sets zeros at (bytesOf 8 x) → b ≡ sets a to (bytesOf 8 y)
-    → b ≡ says (field at x ∷ field to y ∷ [])
-unfolding says stored
-said-pair n zeros long cleared at x to y a b e f = f ∙ rw (e, cleared, long)
 
 -- what a loading and a writing say, by their answer
 module _ (f : Filled) (n : ℕ) (a : List ℕ) where

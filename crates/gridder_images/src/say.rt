@@ -4,15 +4,15 @@ ghost use lib.ListN.{length};
 ghost use Rattle.image_calls.specs.Calls.{writtenReport};
 ghost use Rattle.gridder.specs.Answer.{says, reply};
 ghost use Rattle.gridder_images.specs.Say.{filledFields, filledNumber, writtenFields};
+use gridder::answer::SLOT;
+use gridder::answer::say_both;
+use gridder::answer::say_gate;
+use gridder::answer::say_number;
 use image_calls::loader::Filled;
 use image_calls::writer::Written;
 use refusal::Name;
-use refusal::gate_name;
 use refusal::number;
-use words::bytes::write64;
 use words::clear::clear_bytes;
-
-const SLOT: usize = 40;
 
 const BYTE_PLACE: usize = 96;
 
@@ -27,20 +27,21 @@ pub fn say_load(answer: &mut [u8], filled: Filled) -> u64
     requires { ⌜ length (now answer) ≡ 128 ⌝ }
     ensures { λ r. ⌜ reply r (now (answer .exit)) ≡ reply (filledNumber filled) (says (filledFields filled)) ⌝ }
 {
-    clear_bytes(answer);
     match filled {
         Filled::Image { place } => {
-            write64(answer, BYTE_PLACE, place);
+            say_number(answer, BYTE_PLACE, place);
             number(Name::Image)
         }
-        Filled::Foreign => number(Name::Foreign),
+        Filled::Foreign => {
+            clear_bytes(answer);
+            number(Name::Foreign)
+        }
         Filled::Done {
             count: _,
             label_at,
             label_len,
         } => {
-            write64(answer, LABEL, label_at);
-            write64(answer, LABEL_LENGTH, label_len);
+            say_both(answer, LABEL, label_at, LABEL_LENGTH, label_len);
             0
         }
     }
@@ -51,19 +52,18 @@ pub fn say_write(answer: &mut [u8], written: Written, need: u64) -> u64
     requires { ⌜ length (now answer) ≡ 128 ⌝ }
     ensures { λ r. ⌜ reply r (now (answer .exit)) ≡ reply (writtenReport written .number) (says (writtenFields written need)) ⌝ }
 {
-    clear_bytes(answer);
     match written {
-        Written::Gate(g) => number(gate_name(g)),
+        Written::Gate(g) => say_gate(answer, g),
         Written::Dirty { slot } => {
-            write64(answer, SLOT, slot);
+            say_number(answer, SLOT, slot);
             number(Name::Dirty)
         }
         Written::Room => {
-            write64(answer, IMAGE_LENGTH, need);
+            say_number(answer, IMAGE_LENGTH, need);
             number(Name::Room)
         }
         Written::Done { len } => {
-            write64(answer, IMAGE_LENGTH, len);
+            say_number(answer, IMAGE_LENGTH, len);
             0
         }
     }
