@@ -31,30 +31,7 @@ pub fn lines(group: &mut Group) {
         group.line(format!("LOAD 144 3 0 8 {hex}"));
         group.line(format!("WRITE 144 3 0 8 {hex} 100 0=7"));
     }
-    for entry in [
-        "0",
-        "=7",
-        "0=",
-        "0=7:",
-        "0=7:1",
-        "0=7:0",
-        "0=0:0",
-        "0=7:2",
-        "0=7:255",
-        "0=7:256",
-        "0=7:0x1",
-        "0:1=7",
-        "0=7:1:1",
-        "144=7",
-        "143=7",
-        "0=18446744073709551616",
-        "0=18446744073709551615",
-        "0=7=8",
-        "0x0=0x7",
-    ] {
-        group.line(format!("WRITE 144 3 0 8 - 75 {entry}"));
-        group.line(format!("WRITE 1 3 0 8 - 75 {entry}"));
-    }
+    spoilt::entries(group, ["WRITE 144 3 0 8 - 75", "WRITE 1 3 0 8 - 75"]);
 }
 
 fn load(group: &mut Group, table: &Table, image: &[u8]) {

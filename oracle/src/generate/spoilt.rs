@@ -29,6 +29,29 @@ const FIELDS: [&str; 24] = [
     "99999999999999999999999999999999999999999999999999",
 ];
 
+/// Entries of a table, most of them none: one for each way in which an entry can go wrong.
+const ENTRIES: [&str; 19] = [
+    "0",
+    "=7",
+    "0=",
+    "0=7:",
+    "0=7:1",
+    "0=7:0",
+    "0=0:0",
+    "0=7:2",
+    "0=7:255",
+    "0=7:256",
+    "0=7:0x1",
+    "0:1=7",
+    "0=7:1:1",
+    "144=7",
+    "143=7",
+    "0=18446744073709551616",
+    "0=18446744073709551615",
+    "0=7=8",
+    "0x0=0x7",
+];
+
 const ALONE: [&[u8]; 14] = [
     b"",
     b" ",
@@ -78,6 +101,15 @@ pub fn lines(group: &mut Group, samples: &[&str]) {
                 fields[place] = spoilt;
                 group.line(fields.join(" "));
             }
+        }
+    }
+}
+
+/// Commands that end with one entry, after each of these beginnings.
+pub fn entries(group: &mut Group, heads: [&str; 2]) {
+    for entry in ENTRIES {
+        for head in heads {
+            group.line(format!("{head} {entry}"));
         }
     }
 }
