@@ -90,15 +90,6 @@ bool field_word(struct field field, uint64_t *value)
     return true;
 }
 
-bool field_half_word(struct field field, uint32_t *value)
-{
-    uint64_t wide;
-    if (!field_word(field, &wide) || wide > UINT32_MAX)
-        return false;
-    *value = (uint32_t)wide;
-    return true;
-}
-
 /* The field up to the first of a character, and what is behind it. */
 static bool split(struct field field, char at, struct field *before, struct field *after)
 {

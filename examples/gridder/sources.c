@@ -5,6 +5,7 @@
  *
  * A source's height is fitted over the cells around it, and held against the picture's noise, which is taken from the median
  * of all cells. A source counts as found at 5 times the noise of that fit or more.
+ * Exit status: 0; 2 where an argument or a picture is wrong.
  */
 #include "grid.h"
 
