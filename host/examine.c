@@ -376,37 +376,45 @@ static int unreadable(const char *path)
     return usage();
 }
 
-/* All of a stream; false where reading fails. */
-static bool read_stream(FILE *stream, struct file *file)
+/* All of a stream, but no more than `most` bytes and one; false where reading fails. */
+static bool read_stream(FILE *stream, struct file *file, size_t most)
 {
     size_t room = 1 << 16, got;
     file->bytes = must_have(room);
     file->length = 0;
-    while ((got = fread(file->bytes + file->length, 1, room - file->length, stream)) != 0) {
+    while (file->length <= most && (got = fread(file->bytes + file->length, 1, room - file->length, stream)) != 0) {
         file->length += got;
         if (file->length == room) {
-            uint8_t *larger = must_have(2 * room);
-            memcpy(larger, file->bytes, room);
-            free(file->bytes);
-            file->bytes = larger;
             room *= 2;
+            file->bytes = must_have_again(file->bytes, room);
         }
     }
     return !ferror(stream);
 }
 
+static int too_long(void)
+{
+    printf("refused     the file is longer than any image of %" PRIu64 " slots, the most that this machine's memory holds\n",
+           table_most_slots());
+    return REFUSED;
+}
+
 static int examine_file(const char *path, uint64_t cap)
 {
     struct file file = { NULL, 0 };
+    size_t most = (size_t)landovireph_image_bytes(table_most_slots(), 64);
     FILE *stream = fopen(path, "rb");
     bool read;
     int status;
     if (stream == NULL)
         return unreadable(path);
     start_progress("reading");
-    read = read_stream(stream, &file);
+    read = read_stream(stream, &file, most);
     stop_progress();
-    status = read ? examine(file, cap) : unreadable(path);
+    if (!read)
+        status = unreadable(path);
+    else
+        status = file.length > most ? too_long() : examine(file, cap);
     fclose(stream);
     free(file.bytes);
     return status;

@@ -13,7 +13,12 @@
 
 void *must_have(size_t bytes)
 {
-    void *memory = malloc(bytes != 0 ? bytes : 1);
+    return must_have_again(NULL, bytes);
+}
+
+void *must_have_again(void *memory, size_t bytes)
+{
+    memory = realloc(memory, bytes != 0 ? bytes : 1);
     if (memory == NULL) {
         fprintf(stderr, "no memory for %zu bytes\n", bytes);
         exit(3);

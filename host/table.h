@@ -49,5 +49,7 @@ uint64_t table_digest(const struct table *table);
 
 /* Memory, or the end of the program with a message and status 3. */
 void *must_have(size_t bytes);
+/* The same with what was in it. */
+void *must_have_again(void *memory, size_t bytes);
 
 #endif

@@ -31,29 +31,14 @@ void *memory(size_t count, size_t size)
     return zeroed;
 }
 
-/* Twice the room, with what is in it. */
-static void grow(struct bytes *bytes, size_t *room)
+struct bytes read_file(const char *path, size_t most)
 {
-    uint8_t *larger = memory(*room, 2);
-    memcpy(larger, bytes->at, bytes->length);
-    free(bytes->at);
-    bytes->at = larger;
-    *room *= 2;
-}
-
-struct bytes read_file(const char *path)
-{
-    struct bytes bytes = { NULL, 0 };
-    size_t room = 1 << 16, got;
+    struct bytes bytes;
     FILE *file = fopen(path, "rb");
     if (file == NULL)
         give_up(2, path, strerror(errno));
-    bytes.at = memory(room, 1);
-    while ((got = fread(bytes.at + bytes.length, 1, room - bytes.length, file)) != 0) {
-        bytes.length += got;
-        if (bytes.length == room)
-            grow(&bytes, &room);
-    }
+    bytes.at = memory(most + 1, 1);
+    bytes.length = fread(bytes.at, 1, most + 1, file);
     if (ferror(file))
         give_up(2, path, strerror(errno));
     fclose(file);

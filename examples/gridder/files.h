@@ -19,7 +19,8 @@ void give_up(int status, const char *what, const char *wrong);
 /* Zeroed memory. */
 void *memory(size_t count, size_t size);
 
-struct bytes read_file(const char *path);
+/* The bytes of a file; of a longer one than `most` one byte more, and no others. */
+struct bytes read_file(const char *path, size_t most);
 
 /* Writes what is to become a file beside it, under the name PATH.part. */
 void write_part(const char *path, const void *bytes, size_t length);

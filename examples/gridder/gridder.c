@@ -92,7 +92,7 @@ static void check_table(struct gridder *g)
 
 static void load_image(struct gridder *g, const char *path)
 {
-    struct bytes image = read_file(path);
+    struct bytes image = read_file(path, (size_t)landovireph_image_bytes(g->n, 64));
     uint64_t refused = landovireph_funnel_load(TABLE(g), image.at, image.length, ANSWER(g));
     free(image.at);
     if (refused == LANDOVIREPH_IMAGE)
@@ -121,7 +121,7 @@ static size_t sums_bytes(const struct gridder *g)
 
 static void load_sums(struct gridder *g, const char *path)
 {
-    struct bytes sums = read_file(path);
+    struct bytes sums = read_file(path, sums_bytes(g));
     if (sums.length != sums_bytes(g))
         give_up(2, path, "these are not the sums of this table");
     memcpy(g->sums, sums.at, sums.length);

@@ -16,6 +16,9 @@
 
 const char *const program = "tidy";
 
+/* Of a table of the demonstration there are fewer. */
+#define MOST_SLOTS (2 * (size_t)GRID * GRID)
+
 struct table {
     uint64_t n;
     uint8_t state[LANDOVIREPH_STATE_BYTES], answer[LANDOVIREPH_ANSWER_BYTES];
@@ -79,8 +82,8 @@ int main(int count, char **words)
     uint64_t taken;
     if (count != 5)
         give_up(2, "usage", "tidy IMAGE SUMS TIDIED-IMAGE TIDIED-SUMS");
-    t.image = read_file(words[1]);
-    t.sums = read_file(words[2]);
+    t.image = read_file(words[1], (size_t)landovireph_image_bytes(MOST_SLOTS, 64));
+    t.sums = read_file(words[2], 16 * MOST_SLOTS);
     load(&t);
     taken = take_border_out(&t);
     write_image(&t, words[3]);
