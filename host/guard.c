@@ -8,7 +8,7 @@
  * members moved, doubled and taken out, images damaged, buffers filled with noise. After each call the program tests what may
  * have changed and what must not, and what the answer block holds (include/landovireph.h). It ends with the first call that did
  * otherwise, or with how often each call answered each number.
- * Exit status: 0, or 1 with a message, or 2 for a wrong argument; the same CALLS and SEED make the same calls.
+ * Exit status: 0, or 1 with a message, or 2 for a wrong argument or where writing fails; the same CALLS and SEED make the same calls.
  */
 #include "landovireph.h"
 #include "mix64.h"
@@ -847,5 +847,9 @@ int main(int words, char **word)
         one_call();
     print_tally();
     printf("guard: %" PRIu64 " calls of seed %" PRIu64 ", every buffer against a guard page, no rule broken\n", calls, seed_given);
+    if (fflush(stdout) != 0 || ferror(stdout)) {
+        perror("guard");
+        return 2;
+    }
     return 0;
 }

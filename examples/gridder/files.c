@@ -73,6 +73,12 @@ void write_part(const char *path, const void *bytes, size_t length)
         give_up(2, path, strerror(errno));
 }
 
+void finish_printing(void)
+{
+    if (fflush(stdout) != 0 || ferror(stdout))
+        give_up(2, "standard output", strerror(errno));
+}
+
 void keep_parts(void)
 {
     size_t i;

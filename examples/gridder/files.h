@@ -25,6 +25,9 @@ struct bytes read_file(const char *path, size_t most);
 /* Writes what is to become a file beside it, under the name PATH.part. */
 void write_part(const char *path, const void *bytes, size_t length);
 
+/* What was printed has reached standard output. */
+void finish_printing(void);
+
 /* Gives every part its name. Until then no file that was there is touched; a program that gives up takes its parts away. */
 void keep_parts(void);
 

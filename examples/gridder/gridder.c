@@ -284,6 +284,7 @@ int main(int count, char **words)
     keep_parts();
     printf("%" PRIu64 " samples; %" PRIu64 " cells entered, %" PRIu64 " in all, in a table of %" PRIu64 " slots\n", samples,
            landovireph_state_count(g.state) - before, landovireph_state_count(g.state), g.n);
+    finish_printing();
     close_table(&g);
     return 0;
 }

@@ -90,6 +90,7 @@ int main(int count, char **words)
     write_part(words[4], t.sums.at, t.sums.length);
     keep_parts();
     printf("%" PRIu64 " cells of the border taken out\n", taken);
+    finish_printing();
     free(t.image.at);
     free(t.sums.at);
     free(t.words);
