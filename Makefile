@@ -35,15 +35,18 @@ $(OUT)/landovireph.pc: host/landovireph.pc.in include/landovireph.h Makefile
 	@mkdir -p $(OUT)
 	sed -e 's|@PREFIX@|$(PREFIX)|' -e 's|@VERSION@|$(VERSION)|' $< > $@
 
-$(OUT)/replay: host/replay.c host/elastic.c host/replay.h host/line.c host/line.h host/table.c host/table.h
+$(OUT)/replay: host/replay.c host/funnel.c host/elastic.c host/runs.c host/images.c host/line.c host/table.c \
+    host/replay.h host/runs.h host/line.h host/table.h host/mix64.h
 $(OUT)/examine: host/examine.c host/table.c host/table.h
-$(OUT)/guard: host/guard.c
+$(OUT)/guard: host/guard.c host/mix64.h
 
 $(PROGRAMS): include/landovireph.h $(OUT)/liblandovireph.a
 	$(COMPILE) -Ihost $(filter %.c,$^) $(OUT)/liblandovireph.a -o $@
 
+$(OUT)/gridder $(OUT)/tidy: examples/gridder/files.c examples/gridder/files.h
+
 $(DEMONSTRATION): $(OUT)/%: examples/gridder/%.c examples/gridder/grid.h include/landovireph.h $(OUT)/liblandovireph.a
-	$(COMPILE) $< $(OUT)/liblandovireph.a -lm -o $@
+	$(COMPILE) $(filter %.c,$^) $(OUT)/liblandovireph.a -lm -o $@
 
 check: all
 	host/test

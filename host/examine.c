@@ -4,7 +4,8 @@
  *     examine IMAGE [WORDCAP]      IMAGE names a file; WORDCAP is 1 to 256, 8 if none is given
  *
  * The same words as the program `examine` of this repository (docs/MANUAL.md says how to read them), for tables of any size that
- * the machine's memory holds. Exit status: 0 accepted, 1 disordered or dirty, 2 refused or misuse.
+ * the machine's memory holds. What it says of the image goes to standard output, misuse to standard error.
+ * Exit status: 0 accepted, 1 disordered or dirty, 2 refused or misuse, 3 no memory or output that cannot be written.
  * On a terminal a line on standard error tells what it is at when that takes longer than a second.
  */
 #include "table.h"
@@ -19,7 +20,7 @@
 #include <sys/time.h>
 #include <unistd.h>
 
-enum { ACCEPTED = 0, NOT_MADE = 1, REFUSED = 2 };
+enum { ACCEPTED = 0, NOT_MADE = 1, REFUSED = 2, NO_VERDICT = 3 };
 
 #define USUAL_CAP 8
 #define MOST_CAP 256
@@ -29,12 +30,6 @@ enum { ACCEPTED = 0, NOT_MADE = 1, REFUSED = 2 };
 struct file {
     uint8_t *bytes;
     size_t length;
-};
-
-/* What an image is the image of, and the word cap to examine it with. */
-struct given {
-    uint64_t n, seed, cap;
-    uint32_t e;
 };
 
 /* ---- the progress line */
@@ -97,16 +92,16 @@ static void stop_progress(void)
 /* ---- what the lines are made of */
 
 /* Printable bytes as they are, others as \x and two digits. */
-static void print_text(const uint8_t *bytes, size_t length)
+static void print_text(FILE *to, const uint8_t *bytes, size_t length)
 {
     size_t i;
     for (i = 0; i < length; i++) {
         if (bytes[i] == '"' || bytes[i] == '\\')
-            printf("\\%c", bytes[i]);
+            fprintf(to, "\\%c", bytes[i]);
         else if (bytes[i] < 32 || bytes[i] > 126)
-            printf("\\x%02x", bytes[i]);
+            fprintf(to, "\\x%02x", bytes[i]);
         else
-            putchar(bytes[i]);
+            putc(bytes[i], to);
     }
 }
 
@@ -117,12 +112,17 @@ static void print_percent(uint64_t part, uint64_t whole)
     printf("%" PRIu64 ".%" PRIu64 "%" PRIu64 " %%", share / 100, share / 10 % 10, share % 10);
 }
 
+static int usage(void)
+{
+    fprintf(stderr, "usage       examine IMAGE [WORDCAP]\n");
+    fprintf(stderr, "            IMAGE names a file, WORDCAP is a number from 1 to 256, 8 if none is given\n");
+    return REFUSED;
+}
+
 static int misuse(const char *why)
 {
-    printf("misuse      %s\n", why);
-    printf("usage       examine IMAGE [WORDCAP]\n");
-    printf("            IMAGE names a file, WORDCAP is a number from 1 to 256, 8 if none is given\n");
-    return REFUSED;
+    fprintf(stderr, "misuse      %s\n", why);
+    return usage();
 }
 
 static const char *reason(uint64_t refused)
@@ -276,14 +276,8 @@ static void print_label(struct file image, const struct table *table)
         return;
     }
     printf("label       \"");
-    print_text(image.bytes + at, length);
+    print_text(stdout, image.bytes + at, length);
     printf("\"\n");
-}
-
-static uint64_t load(struct table *table, struct file image)
-{
-    return landovireph_funnel_load(table->state, sizeof table->state, table->words, 8 * table->n, table->flags, table->n,
-                                   image.bytes, image.length, table->answer, sizeof table->answer);
 }
 
 static int check_loaded(struct table *table, struct file image)
@@ -294,8 +288,7 @@ static int check_loaded(struct table *table, struct file image)
     print_label(image, table);
     print_members(table);
     start_progress("checking");
-    refused = landovireph_funnel_check(table->state, sizeof table->state, table->words, 8 * table->n, table->flags, table->n,
-                                       marks, table->n, order, 8 * table->n, table->answer, sizeof table->answer);
+    refused = table_check(table, marks, order);
     stop_progress();
     status = print_verdict(table, marks, refused);
     free(marks);
@@ -303,21 +296,21 @@ static int check_loaded(struct table *table, struct file image)
     return status;
 }
 
-static int examine_table(struct file image, struct given given)
+static int examine_table(struct file image, const struct numbers *numbers)
 {
     struct table table;
     uint64_t refused;
     int status;
     start_progress("loading");
-    refused = table_open(&table, given.n, given.e, given.seed, given.cap, table_most_slots());
+    refused = table_open(&table, numbers, table_most_slots());
     if (refused == 0) {
-        refused = load(&table, image);
+        refused = table_load(&table, image.bytes, image.length);
         if (refused != 0)
             table_close(&table);
     }
     stop_progress();
     if (refused == TABLE_TOO_LARGE) {
-        printf("refused     a table of %" PRIu64 " slots is larger than this machine's memory holds\n", given.n);
+        printf("refused     a table of %" PRIu64 " slots is larger than this machine's memory holds\n", numbers->n);
         return REFUSED;
     }
     if (refused == LANDOVIREPH_IMAGE)
@@ -333,11 +326,12 @@ static int examine_table(struct file image, struct given given)
  * asked with the smallest funnel table, before n and e are known to have one. Answers whether the form is right, or where not. */
 static bool is_well_formed(struct file image, uint64_t *place)
 {
+    static const struct numbers numbers = { .kind = LANDOVIREPH_KIND_FUNNEL, .n = 144, .e = 3, .word_cap = 1 };
     struct table smallest;
     bool right = true;
-    if (table_open(&smallest, 144, 3, 0, 1, 144) != 0)
+    if (table_open(&smallest, &numbers, numbers.n) != 0)
         return true;
-    if (load(&smallest, image) == LANDOVIREPH_IMAGE) {
+    if (table_load(&smallest, image.bytes, image.length) == LANDOVIREPH_IMAGE) {
         *place = landovireph_get(smallest.answer, LANDOVIREPH_ANSWER_BYTE);
         right = false;
     }
@@ -348,75 +342,79 @@ static bool is_well_formed(struct file image, uint64_t *place)
 /* n, e and seed, which every well-formed image starts with:
  *     | 01 08 00 | n, 8 bytes | 02 04 00 | e, 4 bytes | 03 08 00 | seed, 8 bytes |
  *     0          3            11         14           18         21              29 */
-static struct given read_given(struct file image, uint64_t cap)
+static struct numbers read_numbers(struct file image, uint64_t cap)
 {
-    struct given given;
-    given.n = landovireph_get(image.bytes, 3);
-    given.e = (uint32_t)landovireph_get(image.bytes, 14);
-    given.seed = landovireph_get(image.bytes, 21);
-    given.cap = cap;
-    return given;
+    struct numbers numbers = { .kind = LANDOVIREPH_KIND_FUNNEL, .word_cap = cap };
+    numbers.n = landovireph_get(image.bytes, 3);
+    numbers.e = (uint32_t)landovireph_get(image.bytes, 14);
+    numbers.seed = landovireph_get(image.bytes, 21);
+    return numbers;
 }
 
 static int examine(struct file image, uint64_t cap)
 {
     uint64_t place;
-    struct given given;
+    struct numbers numbers;
     bool right;
     start_progress("reading");
     right = is_well_formed(image, &place);
     stop_progress();
     if (!right)
         return print_malformed(image, place);
-    given = read_given(image, cap);
-    printf("n           %" PRIu64 " slots\ne           %" PRIu32 "\nseed        %" PRIu64 "\n", given.n, given.e, given.seed);
-    return examine_table(image, given);
+    numbers = read_numbers(image, cap);
+    printf("n           %" PRIu64 " slots\ne           %" PRIu32 "\nseed        %" PRIu64 "\n", numbers.n, numbers.e, numbers.seed);
+    return examine_table(image, &numbers);
 }
 
 /* ---- arguments and the file */
 
 static int unreadable(const char *path)
 {
-    fprintf(stderr, "%s: %s\n", path, strerror(errno));
-    printf("misuse      the file \"");
-    print_text((const uint8_t *)path, strlen(path));
-    printf("\" cannot be read\n");
-    printf("usage       examine IMAGE [WORDCAP]\n");
-    printf("            IMAGE names a file, WORDCAP is a number from 1 to 256, 8 if none is given\n");
-    return REFUSED;
+    fprintf(stderr, "%s: %s\nmisuse      the file \"", path, strerror(errno));
+    print_text(stderr, (const uint8_t *)path, strlen(path));
+    fprintf(stderr, "\" cannot be read\n");
+    return usage();
 }
 
-/* All of a stream; false where reading fails. */
-static bool read_stream(FILE *stream, struct file *file)
+/* All of a stream, but no more than `most` bytes and one; false where reading fails. */
+static bool read_stream(FILE *stream, struct file *file, size_t most)
 {
     size_t room = 1 << 16, got;
     file->bytes = must_have(room);
     file->length = 0;
-    while ((got = fread(file->bytes + file->length, 1, room - file->length, stream)) != 0) {
+    while (file->length <= most && (got = fread(file->bytes + file->length, 1, room - file->length, stream)) != 0) {
         file->length += got;
         if (file->length == room) {
-            uint8_t *larger = must_have(2 * room);
-            memcpy(larger, file->bytes, room);
-            free(file->bytes);
-            file->bytes = larger;
             room *= 2;
+            file->bytes = must_have_again(file->bytes, room);
         }
     }
     return !ferror(stream);
 }
 
+static int too_long(void)
+{
+    printf("refused     the file is longer than any image of %" PRIu64 " slots, the most that this machine's memory holds\n",
+           table_most_slots());
+    return REFUSED;
+}
+
 static int examine_file(const char *path, uint64_t cap)
 {
     struct file file = { NULL, 0 };
+    size_t most = (size_t)landovireph_image_bytes(table_most_slots(), 64);
     FILE *stream = fopen(path, "rb");
     bool read;
     int status;
     if (stream == NULL)
         return unreadable(path);
     start_progress("reading");
-    read = read_stream(stream, &file);
+    read = read_stream(stream, &file, most);
     stop_progress();
-    status = read ? examine(file, cap) : unreadable(path);
+    if (!read)
+        status = unreadable(path);
+    else
+        status = file.length > most ? too_long() : examine(file, cap);
     fclose(stream);
     free(file.bytes);
     return status;
@@ -453,5 +451,9 @@ int main(int count, char **words)
     if (strlen(words[1]) > MOST_NAME)
         return misuse("the name of the file is too long");
     status = examine_file(words[1], cap);
-    return fflush(stdout) == 0 ? status : 3;
+    if (ferror(stdout) || fflush(stdout) != 0) {
+        fprintf(stderr, "examine: the verdict cannot be written: %s\n", strerror(errno));
+        return NO_VERDICT;
+    }
+    return status;
 }

@@ -8,9 +8,10 @@
  * members moved, doubled and taken out, images damaged, buffers filled with noise. After each call the program tests what may
  * have changed and what must not, and what the answer block holds (include/landovireph.h). It ends with the first call that did
  * otherwise, or with how often each call answered each number.
- * Exit status: 0, or 1 with a message; the same CALLS and SEED make the same calls.
+ * Exit status: 0, or 1 with a message, or 2 for a wrong argument or where writing fails; the same CALLS and SEED make the same calls.
  */
 #include "landovireph.h"
+#include "mix64.h"
 
 #include <inttypes.h>
 #include <signal.h>
@@ -67,10 +68,7 @@ static uint64_t random_state;
 
 static uint64_t draw(void)
 {
-    uint64_t x = random_state += 0x9E3779B97F4A7C15u;
-    x = (x ^ x >> 30) * 0xBF58476D1CE4E5B9u;
-    x = (x ^ x >> 27) * 0x94D049BB133111EBu;
-    return x ^ x >> 31;
+    return mix64(random_state += GOLDEN);
 }
 
 static uint64_t below(uint64_t bound)
@@ -228,7 +226,7 @@ static void make_pool(struct table *tables, bool elastic)
 static uint64_t asked(void)
 {
     if (one_in(16))
-        return 0 - table->seed - 0x9E3779B97F4A7C15u;
+        return 0 - table->seed - GOLDEN;
     if (one_in(2))
         return landovireph_get(table->words, 8 * below(table->n));
     return member();
@@ -815,15 +813,19 @@ static void print_tally(void)
     }
 }
 
+static void usage(void)
+{
+    fprintf(stderr, "usage: guard [CALLS [SEED]]\n");
+    exit(2);
+}
+
 /* A plain decimal, else the end of the program. */
 static uint64_t argument(const char *text)
 {
     char *end;
     uint64_t value = strtoull(text, &end, 10);
-    if (*text < '0' || *text > '9' || *end != 0) {
-        fprintf(stderr, "usage: guard [CALLS [SEED]]\n");
-        exit(2);
-    }
+    if (*text < '0' || *text > '9' || *end != 0)
+        usage();
     return value;
 }
 
@@ -832,6 +834,8 @@ int main(int words, char **word)
     uint64_t calls = words > 1 ? argument(word[1]) : 1000000;
     int i;
     seed_given = words > 2 ? argument(word[2]) : 1;
+    if (words > 3)
+        usage();
     random_state = seed_given;
     signal(SIGSEGV, touched);
     signal(SIGBUS, touched);
@@ -843,5 +847,9 @@ int main(int words, char **word)
         one_call();
     print_tally();
     printf("guard: %" PRIu64 " calls of seed %" PRIu64 ", every buffer against a guard page, no rule broken\n", calls, seed_given);
+    if (fflush(stdout) != 0 || ferror(stdout)) {
+        perror("guard");
+        return 2;
+    }
     return 0;
 }

@@ -2,19 +2,13 @@
 
 #include "table.h"
 
-#include <stdlib.h>
 #include <string.h>
 
 static void add_field(struct fields *fields, const char *text, size_t length)
 {
     if (fields->count == fields->room) {
-        size_t room = fields->room != 0 ? 2 * fields->room : 64;
-        struct field *list = must_have(room * sizeof *list);
-        if (fields->count != 0)
-            memcpy(list, fields->list, fields->count * sizeof *list);
-        free(fields->list);
-        fields->list = list;
-        fields->room = room;
+        fields->room = fields->room != 0 ? 2 * fields->room : 64;
+        fields->list = must_have_again(fields->list, fields->room * sizeof *fields->list);
     }
     fields->list[fields->count].text = text;
     fields->list[fields->count].length = length;
@@ -87,15 +81,6 @@ bool field_word(struct field field, uint64_t *value)
         sum = sum * base + d;
     }
     *value = sum;
-    return true;
-}
-
-bool field_half_word(struct field field, uint32_t *value)
-{
-    uint64_t wide;
-    if (!field_word(field, &wide) || wide > UINT32_MAX)
-        return false;
-    *value = (uint32_t)wide;
     return true;
 }
 

@@ -29,7 +29,6 @@ bool field_is(struct field field, const char *word);
 /* A number of any size. */
 bool field_is_number(struct field field);
 bool field_word(struct field field, uint64_t *value);
-bool field_half_word(struct field field, uint32_t *value);
 /* LEFT=RIGHT. */
 bool field_pair(struct field field, uint64_t *left, uint64_t *right);
 bool field_entry(struct field field, uint64_t n, struct entry *entry);

@@ -13,26 +13,39 @@ struct bounds {
 
 extern struct bounds bounds;
 
-/* The fields behind a command's word. */
+/* The fields of a command that are still to be read. */
 struct given {
     const struct field *fields;
     size_t count;
 };
 
-/* Results from 0 to 26. */
-#define MOST_REFUSALS 27
+/* Each reads the next field, and answers whether there is one of that form. */
+bool take_word(struct given *given, uint64_t *value);
+bool take_half_word(struct given *given, uint32_t *value);
+/* The same for the numbers that a table is opened with. */
+bool take_funnel(struct given *given, struct numbers *numbers);
+bool take_elastic(struct given *given, struct numbers *numbers);
 
-/* How often each refusal came up, as number:times joined by commas, or -. */
-void print_tally(const uint64_t *tally);
+/* Opens the table, or prints why there is none. */
+bool open_or_say(struct table *table, const struct numbers *numbers);
 
-/* The k-th identity of a bulk run. */
-uint64_t bulk_identity(uint64_t start, uint64_t k);
+/* Numbers of the answer block, each with a space before it. */
+void print_said(const struct table *table, const size_t *offsets, size_t count);
 
-/* Whether an opening went well; prints its refusal where it did not. */
-bool is_open_or_say(uint64_t refused);
+/* The answer of a call that is a word alone. */
+uint64_t said(const struct table *table, size_t offset);
 
-/* Each prints the answer to a command on an elastic table, or answers false where its fields are of another form. */
+/* Whether two tables of one size have the same bytes. */
+bool same_table(const struct table *a, const struct table *b);
+
+/* Each prints the answer to a command, or answers false where its fields are of another form. */
+bool answer_funnel_layout(struct given given);
+bool answer_funnel_run(struct given given);
+bool answer_funnel_bulk(struct given given);
 bool answer_elastic_run(struct given given);
 bool answer_elastic_bulk(struct given given);
+bool answer_load(struct given given);
+bool answer_write(struct given given);
+bool answer_check(struct given given);
 
 #endif

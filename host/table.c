@@ -7,9 +7,18 @@
 /* Bytes beside each slot, at most: two tables (9 each), marks and order of a check (9), a word for a list. */
 #define BYTES_BESIDE_A_SLOT 40
 
+#define STATE(table) (table)->state, sizeof (table)->state
+#define BUFFERS(table) (table)->words, 8 * (table)->n, (table)->flags, (table)->n
+#define ANSWER(table) (table)->answer, sizeof (table)->answer
+
 void *must_have(size_t bytes)
 {
-    void *memory = malloc(bytes != 0 ? bytes : 1);
+    return must_have_again(NULL, bytes);
+}
+
+void *must_have_again(void *memory, size_t bytes)
+{
+    memory = realloc(memory, bytes != 0 ? bytes : 1);
     if (memory == NULL) {
         fprintf(stderr, "no memory for %zu bytes\n", bytes);
         exit(3);
@@ -25,47 +34,24 @@ uint64_t table_most_slots(void)
     return (uint64_t)pages * (uint64_t)page / BYTES_BESIDE_A_SLOT;
 }
 
+static uint64_t open_lent(struct table *table, const struct numbers *numbers)
+{
+    if (numbers->kind == LANDOVIREPH_KIND_ELASTIC)
+        return landovireph_elastic_open(numbers->n, numbers->e, numbers->seed, numbers->c, numbers->word_cap, numbers->search_cap,
+                                        numbers->position_cap, STATE(table), BUFFERS(table), ANSWER(table));
+    return landovireph_funnel_open(numbers->n, numbers->e, numbers->seed, numbers->word_cap, STATE(table), BUFFERS(table),
+                                   ANSWER(table));
+}
+
 /* Every n above 1 makes empty buffers STATE, which is the last test: what comes before it is told without any memory. */
-static uint64_t refusal_before_state(uint64_t n, uint32_t e, uint64_t seed, uint64_t word_cap)
-{
-    uint8_t state[LANDOVIREPH_STATE_BYTES], answer[LANDOVIREPH_ANSWER_BYTES], none[2];
-    uint64_t refused = landovireph_funnel_open(n, e, seed, word_cap, state, sizeof state, none, 0, none + 1, 0,
-                                               answer, sizeof answer);
-    return refused == LANDOVIREPH_STATE ? 0 : refused;
-}
-
-uint64_t table_open(struct table *table, uint64_t n, uint32_t e, uint64_t seed, uint64_t word_cap, uint64_t most_slots)
-{
-    uint64_t refused = refusal_before_state(n, e, seed, word_cap);
-    if (refused != 0)
-        return refused;
-    if (n > most_slots)
-        return TABLE_TOO_LARGE;
-    table->n = n;
-    table->words = must_have(8 * n);
-    table->flags = must_have(n);
-    refused = landovireph_funnel_open(n, e, seed, word_cap, table->state, sizeof table->state, table->words, 8 * n,
-                                      table->flags, n, table->answer, sizeof table->answer);
-    if (refused != 0)
-        table_close(table);
-    return refused;
-}
-
-static uint64_t open_elastic(const struct elastic_numbers *numbers, struct table *table)
-{
-    return landovireph_elastic_open(numbers->n, numbers->e, numbers->seed, numbers->c, numbers->word_cap, numbers->search_cap,
-                                    numbers->position_cap, table->state, sizeof table->state, table->words, 8 * table->n,
-                                    table->flags, table->n, table->answer, sizeof table->answer);
-}
-
-uint64_t table_open_elastic(struct table *table, const struct elastic_numbers *numbers, uint64_t most_slots)
+uint64_t table_open(struct table *table, const struct numbers *numbers, uint64_t most_slots)
 {
     uint8_t none[2];
     uint64_t refused;
     table->n = 0;
     table->words = none;
     table->flags = none + 1;
-    refused = open_elastic(numbers, table);
+    refused = open_lent(table, numbers);
     if (refused != LANDOVIREPH_STATE)
         return refused;
     if (numbers->n > most_slots)
@@ -73,7 +59,7 @@ uint64_t table_open_elastic(struct table *table, const struct elastic_numbers *n
     table->n = numbers->n;
     table->words = must_have(8 * table->n);
     table->flags = must_have(table->n);
-    refused = open_elastic(numbers, table);
+    refused = open_lent(table, numbers);
     if (refused != 0)
         table_close(table);
     return refused;
@@ -87,14 +73,42 @@ void table_close(struct table *table)
 
 uint64_t table_insert(struct table *table, uint64_t identity)
 {
-    return landovireph_funnel_insert(table->state, sizeof table->state, table->words, 8 * table->n, table->flags, table->n,
-                                     identity, table->answer, sizeof table->answer);
+    return landovireph_funnel_insert(STATE(table), BUFFERS(table), identity, ANSWER(table));
 }
 
 uint64_t table_search(struct table *table, uint64_t identity)
 {
-    return landovireph_funnel_search(table->state, sizeof table->state, table->words, 8 * table->n, table->flags, table->n,
-                                     identity, table->answer, sizeof table->answer);
+    return landovireph_funnel_search(STATE(table), BUFFERS(table), identity, ANSWER(table));
+}
+
+uint64_t table_elastic_insert(struct table *table, uint64_t identity)
+{
+    return landovireph_elastic_insert(STATE(table), BUFFERS(table), identity, ANSWER(table));
+}
+
+uint64_t table_elastic_query(struct table *table, uint64_t identity)
+{
+    return landovireph_elastic_query(STATE(table), BUFFERS(table), identity, ANSWER(table));
+}
+
+uint64_t table_place_all(struct table *table, const uint8_t *identities, uint8_t *slots, size_t many)
+{
+    return landovireph_funnel_place_all(STATE(table), BUFFERS(table), identities, 8 * many, slots, 8 * many, ANSWER(table));
+}
+
+uint64_t table_check(struct table *table, uint8_t *marks, uint8_t *order)
+{
+    return landovireph_funnel_check(STATE(table), BUFFERS(table), marks, table->n, order, 8 * table->n, ANSWER(table));
+}
+
+uint64_t table_load(struct table *table, const uint8_t *image, size_t image_bytes)
+{
+    return landovireph_funnel_load(STATE(table), BUFFERS(table), image, image_bytes, ANSWER(table));
+}
+
+uint64_t table_write(struct table *table, const uint8_t *label, size_t label_bytes, uint8_t *image, size_t room)
+{
+    return landovireph_funnel_write(STATE(table), BUFFERS(table), label, label_bytes, image, room, ANSWER(table));
 }
 
 void table_set(struct table *table, uint64_t slot, uint64_t identity, uint8_t flag)
@@ -111,18 +125,11 @@ static uint64_t fnv(uint64_t hash, uint64_t word)
     return hash;
 }
 
-uint64_t table_digest(const uint8_t *words, const uint8_t *flags, uint64_t n)
+uint64_t table_digest(const struct table *table)
 {
     uint64_t hash = 0xcbf29ce484222325u, slot;
-    for (slot = 0; slot < n; slot++)
-        if (flags[slot] != 0)
-            hash = fnv(fnv(hash, slot), landovireph_get(words, 8 * slot));
+    for (slot = 0; slot < table->n; slot++)
+        if (table->flags[slot] != 0)
+            hash = fnv(fnv(hash, slot), landovireph_get(table->words, 8 * slot));
     return hash;
-}
-
-uint64_t mix64(uint64_t x)
-{
-    x = (x ^ x >> 30) * 0xBF58476D1CE4E5B9u;
-    x = (x ^ x >> 27) * 0x94D049BB133111EBu;
-    return x ^ x >> 31;
 }

@@ -7,6 +7,14 @@
 /* No refusal has this number: the table has a layout, but is larger than the machine or the given bound holds. */
 #define TABLE_TOO_LARGE 1000
 
+/* The numbers that a table is opened with; the last three are an elastic table's alone. */
+struct numbers {
+    enum landovireph_state_kind kind;
+    uint64_t n, seed, word_cap;
+    uint32_t e;
+    uint64_t c, search_cap, position_cap;
+};
+
 /* A table with its blocks and buffers; lent whole to every call. */
 struct table {
     uint64_t n;
@@ -20,31 +28,28 @@ struct table {
 uint64_t table_most_slots(void);
 
 /* A fresh table of at most most_slots: 0, a refusal from 1 to 6, or TABLE_TOO_LARGE. To be closed only after 0. */
-uint64_t table_open(struct table *table, uint64_t n, uint32_t e, uint64_t seed, uint64_t word_cap, uint64_t most_slots);
+uint64_t table_open(struct table *table, const struct numbers *numbers, uint64_t most_slots);
 void table_close(struct table *table);
 
-/* The numbers that an elastic table is opened with. */
-struct elastic_numbers {
-    uint64_t n, seed, c, word_cap, search_cap, position_cap;
-    uint32_t e;
-};
-
-/* The same for an elastic table. */
-uint64_t table_open_elastic(struct table *table, const struct elastic_numbers *numbers, uint64_t most_slots);
-
+/* The exported calls of these names, on all of a table. */
 uint64_t table_insert(struct table *table, uint64_t identity);
 uint64_t table_search(struct table *table, uint64_t identity);
+uint64_t table_elastic_insert(struct table *table, uint64_t identity);
+uint64_t table_elastic_query(struct table *table, uint64_t identity);
+uint64_t table_place_all(struct table *table, const uint8_t *identities, uint8_t *slots, size_t many);
+uint64_t table_check(struct table *table, uint8_t *marks, uint8_t *order);
+uint64_t table_load(struct table *table, const uint8_t *image, size_t image_bytes);
+uint64_t table_write(struct table *table, const uint8_t *label, size_t label_bytes, uint8_t *image, size_t room);
 
 /* A slot's word and flag, as the caller wishes. */
 void table_set(struct table *table, uint64_t slot, uint64_t identity, uint8_t flag);
 
 /* FNV-1a, 64 bits, over slot and identity of the occupied slots in rising order. */
-uint64_t table_digest(const uint8_t *words, const uint8_t *flags, uint64_t n);
+uint64_t table_digest(const struct table *table);
 
-/* mix64 of the probes: what the identities of a bulk run are made with. */
-uint64_t mix64(uint64_t x);
-
-/* Memory, or the end of the program with a message. */
+/* Memory, or the end of the program with a message and status 3. */
 void *must_have(size_t bytes);
+/* The same with what was in it. */
+void *must_have_again(void *memory, size_t bytes);
 
 #endif

@@ -118,6 +118,37 @@ unsafe extern "C" {
     fn bench_draws(seed: u64, identity: u64, cap: u64, counts: *const u64, levels: usize) -> u64;
 }
 
+/// Calls one on a table with its state, level counts, words and flags: those that it may write, or all only to be read.
+macro_rules! call {
+    ($name:ident(mut $table:expr $(, $given:expr)*)) => {
+        // Every pointer is to memory that lives as long as the call; the length of a slice goes with it.
+        unsafe {
+            $name(
+                &mut $table.state,
+                &mut $table.counts,
+                $table.words.as_mut_ptr(),
+                $table.words.len(),
+                $table.flags.as_mut_ptr(),
+                $table.flags.len(),
+                $($given,)*
+            )
+        }
+    };
+    ($name:ident($table:expr $(, $given:expr)*)) => {
+        unsafe {
+            $name(
+                &$table.state,
+                &$table.counts,
+                $table.words.as_ptr(),
+                $table.words.len(),
+                $table.flags.as_ptr(),
+                $table.flags.len(),
+                $($given,)*
+            )
+        }
+    };
+}
+
 /// The plan of n and e, if there is one.
 pub fn funnel_plan(n: u64, e: u32) -> Option<(Plan, Counts)> {
     let mut plan = [0; 11];
@@ -190,50 +221,16 @@ impl Funnel {
 
     /// Places identities; whether all were.
     pub fn place_all(&mut self, identities: &[u64], slots: &mut [u64]) -> bool {
-        unsafe {
-            bench_place_all(
-                &mut self.state,
-                &self.counts,
-                self.words.as_mut_ptr(),
-                self.words.len(),
-                self.flags.as_mut_ptr(),
-                self.flags.len(),
-                identities.as_ptr(),
-                identities.len(),
-                slots.as_mut_ptr(),
-                slots.len(),
-            )
-        }
+        call!(bench_place_all(mut self, identities.as_ptr(), identities.len(), slots.as_mut_ptr(), slots.len()))
     }
 
     pub fn insert(&mut self, identity: u64) -> bool {
-        unsafe {
-            bench_insert(
-                &mut self.state,
-                &self.counts,
-                self.words.as_mut_ptr(),
-                self.words.len(),
-                self.flags.as_mut_ptr(),
-                self.flags.len(),
-                identity,
-            )
-        }
+        call!(bench_insert(mut self, identity))
     }
 
     /// The sum of the probe counts of searches for identities.
     pub fn search_all(&self, identities: &[u64]) -> u64 {
-        unsafe {
-            bench_search_all(
-                &self.state,
-                &self.counts,
-                self.words.as_ptr(),
-                self.words.len(),
-                self.flags.as_ptr(),
-                self.flags.len(),
-                identities.as_ptr(),
-                identities.len(),
-            )
-        }
+        call!(bench_search_all(self, identities.as_ptr(), identities.len()))
     }
 
     /// Puts an identity into a slot, whatever its path is.
@@ -248,21 +245,7 @@ impl Funnel {
 
     pub fn check(&self, marks: &mut [u8], order: &mut [u64]) -> Verdict {
         let mut told = [0; 2];
-        let ending = unsafe {
-            bench_check(
-                &self.state,
-                &self.counts,
-                self.words.as_ptr(),
-                self.words.len(),
-                self.flags.as_ptr(),
-                self.flags.len(),
-                marks.as_mut_ptr(),
-                marks.len(),
-                order.as_mut_ptr(),
-                order.len(),
-                &mut told,
-            )
-        };
+        let ending = call!(bench_check(self, marks.as_mut_ptr(), marks.len(), order.as_mut_ptr(), order.len(), &mut told));
         let [placed, slot] = told;
         match ending {
             0 => Verdict::Accepted { placed },
@@ -273,36 +256,12 @@ impl Funnel {
 
     /// The length of the table's image with a label, 0 where it was not written.
     pub fn write_image(&self, label: &[u8], out: &mut [u8]) -> u64 {
-        unsafe {
-            bench_write_image(
-                &self.state,
-                &self.counts,
-                self.words.as_ptr(),
-                self.words.len(),
-                self.flags.as_ptr(),
-                self.flags.len(),
-                label.as_ptr(),
-                label.len(),
-                out.as_mut_ptr(),
-                out.len(),
-            )
-        }
+        call!(bench_write_image(self, label.as_ptr(), label.len(), out.as_mut_ptr(), out.len()))
     }
 
     /// The table from an image of it; whether it was one.
     pub fn load_image(&mut self, image: &[u8]) -> bool {
-        unsafe {
-            bench_load_image(
-                &self.state,
-                &self.counts,
-                self.words.as_mut_ptr(),
-                self.words.len(),
-                self.flags.as_mut_ptr(),
-                self.flags.len(),
-                image.as_ptr(),
-                image.len(),
-            )
-        }
+        call!(bench_load_image(mut self, image.as_ptr(), image.len()))
     }
 }
 
@@ -326,16 +285,7 @@ impl Elastic {
             flags: vec![0; n],
         };
         table.state[..7].copy_from_slice(&numbers);
-        let opened = unsafe {
-            bench_elastic_open(
-                &mut table.state,
-                &mut table.counts,
-                table.words.as_mut_ptr(),
-                table.words.len(),
-                table.flags.as_mut_ptr(),
-                table.flags.len(),
-            )
-        };
+        let opened = call!(bench_elastic_open(mut table));
         assert!(opened, "no elastic table of {numbers:?}");
         table
     }
@@ -346,31 +296,11 @@ impl Elastic {
 
     /// The phi of the identity's slot, 0 where it was refused.
     pub fn insert(&mut self, identity: u64) -> u64 {
-        unsafe {
-            bench_elastic_insert(
-                &mut self.state,
-                &mut self.counts,
-                self.words.as_mut_ptr(),
-                self.words.len(),
-                self.flags.as_mut_ptr(),
-                self.flags.len(),
-                identity,
-            )
-        }
+        call!(bench_elastic_insert(mut self, identity))
     }
 
     /// The identity's position, 0 where it was not found.
     pub fn query(&self, identity: u64) -> u64 {
-        unsafe {
-            bench_elastic_query(
-                &self.state,
-                &self.counts,
-                self.words.as_ptr(),
-                self.words.len(),
-                self.flags.as_ptr(),
-                self.flags.len(),
-                identity,
-            )
-        }
+        call!(bench_elastic_query(self, identity))
     }
 }

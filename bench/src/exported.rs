@@ -7,71 +7,53 @@ use crate::calls::{self, Funnel};
 use crate::funnels::{CAP, SEED, identity};
 use crate::measure::Table;
 
-unsafe extern "C" {
-    fn landovireph_funnel_open(
-        n: u64,
-        e: u32,
-        seed: u64,
-        word_cap: u64,
-        state: *mut u8,
-        state_len: usize,
-        words: *mut u8,
-        words_len: usize,
-        flags: *mut u8,
-        flags_len: usize,
-        answer: *mut u8,
-        answer_len: usize,
-    ) -> u64;
-    fn landovireph_funnel_search(
-        state: *const u8,
-        state_len: usize,
-        words: *const u8,
-        words_len: usize,
-        flags: *const u8,
-        flags_len: usize,
-        identity: u64,
-        answer: *mut u8,
-        answer_len: usize,
-    ) -> u64;
-    fn landovireph_funnel_insert(
-        state: *mut u8,
-        state_len: usize,
-        words: *mut u8,
-        words_len: usize,
-        flags: *mut u8,
-        flags_len: usize,
-        identity: u64,
-        answer: *mut u8,
-        answer_len: usize,
-    ) -> u64;
-    fn landovireph_funnel_place_all(
-        state: *mut u8,
-        state_len: usize,
-        words: *mut u8,
-        words_len: usize,
-        flags: *mut u8,
-        flags_len: usize,
-        identities: *const u8,
-        identities_len: usize,
-        slots: *mut u8,
-        slots_len: usize,
-        answer: *mut u8,
-        answer_len: usize,
-    ) -> u64;
-    fn landovireph_funnel_check(
-        state: *const u8,
-        state_len: usize,
-        words: *const u8,
-        words_len: usize,
-        flags: *const u8,
-        flags_len: usize,
-        marks: *mut u8,
-        marks_len: usize,
-        order: *mut u8,
-        order_len: usize,
-        answer: *mut u8,
-        answer_len: usize,
-    ) -> u64;
+/// Declares calls for C: numbers, then the state block, words and flags, then what else is lent, and the answer block.
+macro_rules! declare {
+    ($(fn $name:ident([$($number:ident: $kind:ty),*] $($given:ident: $type:ty),*);)*) => {
+        unsafe extern "C" {
+            $(fn $name(
+                $($number: $kind,)*
+                state: *mut u8,
+                state_len: usize,
+                words: *mut u8,
+                words_len: usize,
+                flags: *mut u8,
+                flags_len: usize,
+                $($given: $type,)*
+                answer: *mut u8,
+                answer_len: usize,
+            ) -> u64;)*
+        }
+    };
+}
+
+declare! {
+    fn landovireph_funnel_open([n: u64, e: u32, seed: u64, word_cap: u64]);
+    fn landovireph_funnel_search([] identity: u64);
+    fn landovireph_funnel_insert([] identity: u64);
+    fn landovireph_funnel_place_all([] identities: *const u8, identities_len: usize, slots: *mut u8, slots_len: usize);
+    fn landovireph_funnel_check([] marks: *mut u8, marks_len: usize, order: *mut u8, order_len: usize);
+}
+
+/// Calls one of them with all of a table.
+macro_rules! on {
+    ($table:expr, $name:ident([$($number:expr),*] $($given:expr),*)) => {
+        // Every pointer is to memory of the length behind it, which lives as long as the call and overlaps no other.
+        unsafe {
+            $name(
+                $($number,)*
+                $table.state.as_mut_ptr(),
+                STATE,
+                $table.words.as_mut_ptr().cast(),
+                8 * $table.words.len(),
+                $table.flags.as_mut_ptr(),
+                $table.flags.len(),
+                $($given,)*
+                $table.answer.as_mut_ptr(),
+                ANSWER,
+            )
+        }
+    };
 }
 
 const STATE: usize = 2048;
@@ -95,22 +77,7 @@ impl Lent {
             words: vec![0; n as usize],
             flags: vec![0; n as usize],
         };
-        let refused = unsafe {
-            landovireph_funnel_open(
-                n,
-                e,
-                SEED,
-                CAP,
-                table.state.as_mut_ptr(),
-                STATE,
-                table.words.as_mut_ptr().cast(),
-                8 * table.words.len(),
-                table.flags.as_mut_ptr(),
-                table.flags.len(),
-                table.answer.as_mut_ptr(),
-                ANSWER,
-            )
-        };
+        let refused = on!(table, landovireph_funnel_open([n, e, SEED, CAP]));
         assert_eq!(refused, 0, "no table of {n} slots at exponent {e}");
         table
     }
@@ -122,73 +89,21 @@ impl Lent {
     }
 
     fn search(&mut self, identity: u64) -> u64 {
-        unsafe {
-            landovireph_funnel_search(
-                self.state.as_ptr(),
-                STATE,
-                self.words.as_ptr().cast(),
-                8 * self.words.len(),
-                self.flags.as_ptr(),
-                self.flags.len(),
-                identity,
-                self.answer.as_mut_ptr(),
-                ANSWER,
-            )
-        }
+        on!(self, landovireph_funnel_search([] identity))
     }
 
     fn insert(&mut self, identity: u64) -> u64 {
-        unsafe {
-            landovireph_funnel_insert(
-                self.state.as_mut_ptr(),
-                STATE,
-                self.words.as_mut_ptr().cast(),
-                8 * self.words.len(),
-                self.flags.as_mut_ptr(),
-                self.flags.len(),
-                identity,
-                self.answer.as_mut_ptr(),
-                ANSWER,
-            )
-        }
+        on!(self, landovireph_funnel_insert([] identity))
     }
 
     fn place_all(&mut self, identities: &[u64], slots: &mut [u64]) -> u64 {
-        unsafe {
-            landovireph_funnel_place_all(
-                self.state.as_mut_ptr(),
-                STATE,
-                self.words.as_mut_ptr().cast(),
-                8 * self.words.len(),
-                self.flags.as_mut_ptr(),
-                self.flags.len(),
-                identities.as_ptr().cast(),
-                8 * identities.len(),
-                slots.as_mut_ptr().cast(),
-                8 * slots.len(),
-                self.answer.as_mut_ptr(),
-                ANSWER,
-            )
-        }
+        let (count, room) = (8 * identities.len(), 8 * slots.len());
+        on!(self, landovireph_funnel_place_all([] identities.as_ptr().cast(), count, slots.as_mut_ptr().cast(), room))
     }
 
     fn check(&mut self, marks: &mut [u8], order: &mut [u64]) -> u64 {
-        unsafe {
-            landovireph_funnel_check(
-                self.state.as_ptr(),
-                STATE,
-                self.words.as_ptr().cast(),
-                8 * self.words.len(),
-                self.flags.as_ptr(),
-                self.flags.len(),
-                marks.as_mut_ptr(),
-                marks.len(),
-                order.as_mut_ptr().cast(),
-                8 * order.len(),
-                self.answer.as_mut_ptr(),
-                ANSWER,
-            )
-        }
+        let (count, room) = (marks.len(), 8 * order.len());
+        on!(self, landovireph_funnel_check([] marks.as_mut_ptr(), count, order.as_mut_ptr().cast(), room))
     }
 }
 

@@ -20,7 +20,13 @@ static inline uint64_t cell_identity(uint32_t x, uint32_t y)
     return (uint64_t)y << 32 | x;
 }
 
-/* Whether an identity is a cell of the field; the others are the border's. */
+/* Whether an identity is a cell of the grid. */
+static inline int is_in_grid(uint64_t identity)
+{
+    return (identity & 0xffffffffu) < GRID && identity >> 32 < GRID;
+}
+
+/* Whether it is one of the field; the others are the border's. */
 static inline int is_in_field(uint64_t identity)
 {
     uint64_t x = identity & 0xffffffffu, y = identity >> 32;

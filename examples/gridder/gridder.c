@@ -8,14 +8,19 @@
  * makes it. --unchecked leaves the check out, as was done before there was one. --to writes the table's image and its sums,
  * --picture the field as a PGM file.
  * Exit status: 0; 1 where the table was refused; 2 where an argument or a file is wrong. Nothing is written unless every sample was
- * summed.
+ * summed, and then all files or none.
  */
+#include "files.h"
 #include "grid.h"
 
+#include <errno.h>
 #include <inttypes.h>
+#include <math.h>
 #include <stdio.h>
 #include <stdlib.h>
 #include <string.h>
+
+const char *const program = "gridder";
 
 /* Samples that are placed by one call. */
 #define BATCH 4096
@@ -24,43 +29,13 @@ struct gridder {
     uint64_t n;
     uint8_t state[LANDOVIREPH_STATE_BYTES], answer[LANDOVIREPH_ANSWER_BYTES];
     uint8_t *words, *flags;
-    double *sums, *weights; /* by slot */
+    double *sums, *weights; /* by slot; the weights lie behind the sums */
 };
 
 struct options {
     const char *from_image, *from_sums, *to_image, *to_sums, *picture, *samples;
     int unchecked;
 };
-
-static void give_up(int status, const char *what, const char *about)
-{
-    fprintf(stderr, "gridder: %s%s%s\n", what, *about != 0 ? ": " : "", about);
-    exit(status);
-}
-
-static void *memory(size_t count, size_t size)
-{
-    void *zeroed = calloc(count != 0 ? count : 1, size);
-    if (zeroed == NULL)
-        give_up(2, "no memory", "");
-    return zeroed;
-}
-
-static FILE *opened(const char *path, const char *mode)
-{
-    FILE *file = fopen(path, mode);
-    if (file == NULL) {
-        perror(path);
-        exit(2);
-    }
-    return file;
-}
-
-static void closed(FILE *file, const char *path)
-{
-    if (ferror(file) || fclose(file) != 0)
-        give_up(2, "the file cannot be read or written", path);
-}
 
 /* ---- the table */
 
@@ -80,8 +55,8 @@ static void open_table(struct gridder *g, uint64_t cells)
     }
     if (refused != 0)
         give_up(1, "no table could be opened", landovireph_refusal_name(refused));
-    g->sums = memory(g->n, sizeof *g->sums);
-    g->weights = memory(g->n, sizeof *g->weights);
+    g->sums = memory(2 * g->n, sizeof *g->sums);
+    g->weights = g->sums + g->n;
 }
 
 static void close_table(struct gridder *g)
@@ -89,7 +64,6 @@ static void close_table(struct gridder *g)
     free(g->words);
     free(g->flags);
     free(g->sums);
-    free(g->weights);
 }
 
 #define TABLE(g) (g)->state, sizeof (g)->state, (g)->words, 8 * (g)->n, (g)->flags, (g)->n
@@ -118,14 +92,12 @@ static void check_table(struct gridder *g)
 
 static void load_image(struct gridder *g, const char *path)
 {
-    size_t room = (size_t)landovireph_image_bytes(g->n, 64), length;
-    uint8_t *image = memory(room + 1, 1);
-    FILE *file = opened(path, "rb");
-    uint64_t refused;
-    length = fread(image, 1, room + 1, file);
-    closed(file, path);
-    refused = landovireph_funnel_load(TABLE(g), image, length, ANSWER(g));
-    free(image);
+    struct bytes image = read_file(path, (size_t)landovireph_image_bytes(g->n, 64));
+    uint64_t refused = landovireph_funnel_load(TABLE(g), image.at, image.length, ANSWER(g));
+    free(image.at);
+    if (refused == LANDOVIREPH_IMAGE)
+        fprintf(stderr, "gridder: %s is no image: it is malformed at byte %" PRIu64 "\n", path,
+                landovireph_get(g->answer, LANDOVIREPH_ANSWER_BYTE));
     if (refused != 0)
         give_up(1, path, landovireph_refusal_name(refused));
 }
@@ -135,30 +107,25 @@ static void write_image(struct gridder *g, const char *path)
     static const uint8_t label[] = { 'g', 'r', 'i', 'd', 'd', 'e', 'r' };
     size_t room = (size_t)landovireph_image_bytes(landovireph_state_count(g->state), sizeof label);
     uint8_t *image = memory(room, 1);
-    FILE *file;
     uint64_t refused = landovireph_funnel_write(TABLE(g), label, sizeof label, image, room, ANSWER(g));
     if (refused != 0)
         give_up(1, "the table cannot be written", landovireph_refusal_name(refused));
-    file = opened(path, "wb");
-    fwrite(image, 1, (size_t)landovireph_get(g->answer, LANDOVIREPH_ANSWER_IMAGE_BYTES), file);
-    closed(file, path);
+    write_part(path, image, (size_t)landovireph_get(g->answer, LANDOVIREPH_ANSWER_IMAGE_BYTES));
     free(image);
+}
+
+static size_t sums_bytes(const struct gridder *g)
+{
+    return 2 * (size_t)g->n * sizeof *g->sums;
 }
 
 static void load_sums(struct gridder *g, const char *path)
 {
-    FILE *file = opened(path, "rb");
-    if (fread(g->sums, sizeof *g->sums, g->n, file) != g->n || fread(g->weights, sizeof *g->weights, g->n, file) != g->n)
-        give_up(2, "the sums are not those of this table", path);
-    closed(file, path);
-}
-
-static void write_sums(const struct gridder *g, const char *path)
-{
-    FILE *file = opened(path, "wb");
-    fwrite(g->sums, sizeof *g->sums, g->n, file);
-    fwrite(g->weights, sizeof *g->weights, g->n, file);
-    closed(file, path);
+    struct bytes sums = read_file(path, sums_bytes(g));
+    if (sums.length != sums_bytes(g))
+        give_up(2, path, "these are not the sums of this table");
+    memcpy(g->sums, sums.at, sums.length);
+    free(sums.at);
 }
 
 /* ---- samples */
@@ -169,6 +136,13 @@ static double get_double(const uint8_t *bytes)
     double value;
     memcpy(&value, &bits, sizeof value);
     return value;
+}
+
+/* A cell of the grid, a value, and a weight above 0. */
+static int is_sample(const uint8_t *record)
+{
+    return is_in_grid(landovireph_get(record, 0)) && isfinite(get_double(record + 8)) && isfinite(get_double(record + 16)) &&
+           get_double(record + 16) > 0.0;
 }
 
 /* Finds or enters the cells of a batch by one call, and adds each sample at its slot. */
@@ -190,19 +164,33 @@ static void grid_batch(struct gridder *g, const uint8_t *records, size_t count)
     }
 }
 
+/* The samples of a batch are all right, or the run ends. */
+static void test_batch(const uint8_t *records, size_t length, const char *path)
+{
+    size_t at;
+    if (length % SAMPLE_BYTES != 0)
+        give_up(2, path, "the file ends inside a sample");
+    for (at = 0; at < length; at += SAMPLE_BYTES)
+        if (!is_sample(records + at))
+            give_up(2, path, "a record is no sample: no cell of the grid, or no value, or no weight");
+}
+
 static uint64_t grid_samples(struct gridder *g, const char *path)
 {
     static uint8_t records[SAMPLE_BYTES * BATCH];
-    FILE *file = opened(path, "rb");
+    FILE *file = fopen(path, "rb");
     uint64_t all = 0;
     size_t length;
+    if (file == NULL)
+        give_up(2, path, strerror(errno));
     while ((length = fread(records, 1, sizeof records, file)) != 0) {
-        if (length % SAMPLE_BYTES != 0)
-            give_up(2, "the file ends inside a sample", path);
+        test_batch(records, length, path);
         grid_batch(g, records, length / SAMPLE_BYTES);
         all += length / SAMPLE_BYTES;
     }
-    closed(file, path);
+    if (ferror(file))
+        give_up(2, path, strerror(errno));
+    fclose(file);
     return all;
 }
 
@@ -228,23 +216,23 @@ static unsigned grey_of(double value)
 
 static void write_picture(struct gridder *g, const char *path)
 {
-    FILE *file = opened(path, "wb");
+    static uint8_t picture[32 + 2 * FIELD * FIELD];
+    size_t at = (size_t)sprintf((char *)picture, "P5\n%d %d\n65535\n", FIELD, FIELD);
     uint32_t x, y;
-    fprintf(file, "P5\n%d %d\n65535\n", FIELD, FIELD);
     for (y = BORDER; y < BORDER + FIELD; y++)
         for (x = BORDER; x < BORDER + FIELD; x++) {
             unsigned grey = grey_of(mean_of(g, cell_identity(x, y)));
-            putc((int)(grey >> 8), file);
-            putc((int)(grey & 255), file);
+            picture[at++] = (uint8_t)(grey >> 8);
+            picture[at++] = (uint8_t)(grey & 255);
         }
-    closed(file, path);
+    write_part(path, picture, at);
 }
 
 /* ---- arguments */
 
 static void usage(void)
 {
-    give_up(2, "usage: gridder [--from IMAGE SUMS] [--unchecked] [--to IMAGE SUMS] [--picture FILE] SAMPLES", "");
+    give_up(2, "usage", "gridder [--from IMAGE SUMS] [--unchecked] [--to IMAGE SUMS] [--picture FILE] SAMPLES");
 }
 
 static struct options read_options(int count, char **words)
@@ -289,12 +277,14 @@ int main(int count, char **words)
     samples = grid_samples(&g, options.samples);
     if (options.to_image != NULL) {
         write_image(&g, options.to_image);
-        write_sums(&g, options.to_sums);
+        write_part(options.to_sums, g.sums, sums_bytes(&g));
     }
     if (options.picture != NULL)
         write_picture(&g, options.picture);
+    keep_parts();
     printf("%" PRIu64 " samples; %" PRIu64 " cells entered, %" PRIu64 " in all, in a table of %" PRIu64 " slots\n", samples,
            landovireph_state_count(g.state) - before, landovireph_state_count(g.state), g.n);
+    finish_printing();
     close_table(&g);
     return 0;
 }

@@ -6,7 +6,7 @@
  * A field of 256 x 256 cells lies in the middle of a grid of 362 x 362. The sky has 6 bright point sources and 24 faint ones, and
  * each sample is the sky at its cell with noise. "first" is the long part: 4 samples of weight 9 of every cell of the grid; "second"
  * is the short rest: one sample of weight 1 of every cell of the field. A record is 24 bytes: identity, value, weight (a
- * little-endian 64-bit number and two doubles).
+ * little-endian 64-bit number and two doubles). Exit status: 0; 2 for a wrong argument or where writing fails.
  */
 #include "grid.h"
 
@@ -23,7 +23,7 @@
 
 static uint64_t random_state;
 
-/* splitmix64 */
+/* splitmix64, written out here so that the example needs nothing but the header and the archive. */
 static uint64_t draw(void)
 {
     uint64_t x = random_state += 0x9E3779B97F4A7C15u;
@@ -98,7 +98,7 @@ int main(int count, char **words)
     }
     if (fflush(stdout) != 0 || ferror(stdout)) {
         perror("samples");
-        return 1;
+        return 2;
     }
     return 0;
 }

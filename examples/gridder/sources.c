@@ -5,6 +5,7 @@
  *
  * A source's height is fitted over the cells around it, and held against the picture's noise, which is taken from the median
  * of all cells. A source counts as found at 5 times the noise of that fit or more.
+ * Exit status: 0; 2 where an argument or a picture is wrong, or writing fails.
  */
 #include "grid.h"
 
@@ -92,5 +93,9 @@ int main(int count, char **words)
     printf("noise of a cell   %6.2f  %6.2f\n", honest.noise, other.noise);
     printf("bright sources    %3d/%d    %3d/%d\n", found[0][0], BRIGHT, found[0][1], BRIGHT);
     printf("faint sources    %3d/%d   %3d/%d\n", found[1][0], FAINT, found[1][1], FAINT);
+    if (fflush(stdout) != 0 || ferror(stdout)) {
+        perror("sources");
+        return 2;
+    }
     return 0;
 }

@@ -5,17 +5,19 @@
  *
  * Every cell of the field stays where it is, with its sums. This is the mistake: a vacancy is left wherever a border cell was, and
  * a lookup of a cell that stands behind such a vacancy stops there.
+ * Exit status: 0; 1 where the table was refused; 2 where an argument or a file is wrong. Both files are written, or none.
  */
+#include "files.h"
 #include "grid.h"
 
 #include <inttypes.h>
 #include <stdio.h>
 #include <stdlib.h>
 
-struct bytes {
-    uint8_t *at;
-    size_t length;
-};
+const char *const program = "tidy";
+
+/* Of a table of the demonstration there are fewer. */
+#define MOST_SLOTS (2 * (size_t)GRID * GRID)
 
 struct table {
     uint64_t n;
@@ -24,69 +26,23 @@ struct table {
     struct bytes image, sums; /* sums: 8 bytes to a slot, then as many weights */
 };
 
-static void give_up(const char *what, uint64_t refused)
-{
-    fprintf(stderr, "tidy: %s: %s (%" PRIu64 ")\n", what, landovireph_refusal_name(refused), refused);
-    exit(1);
-}
-
-static void *memory(size_t length)
-{
-    void *got = malloc(length != 0 ? length : 1);
-    if (got == NULL) {
-        fprintf(stderr, "tidy: no memory for %zu bytes\n", length);
-        exit(2);
-    }
-    return got;
-}
-
-static struct bytes read_file(const char *path)
-{
-    struct bytes bytes;
-    FILE *file = fopen(path, "rb");
-    long length;
-    if (file == NULL || fseek(file, 0, SEEK_END) != 0 || (length = ftell(file)) < 0 || fseek(file, 0, SEEK_SET) != 0) {
-        perror(path);
-        exit(2);
-    }
-    bytes.length = (size_t)length;
-    bytes.at = memory(bytes.length);
-    if (fread(bytes.at, 1, bytes.length, file) != bytes.length) {
-        fprintf(stderr, "tidy: %s cannot be read\n", path);
-        exit(2);
-    }
-    fclose(file);
-    return bytes;
-}
-
-static void write_file(const char *path, const uint8_t *bytes, size_t length)
-{
-    FILE *file = fopen(path, "wb");
-    if (file == NULL || fwrite(bytes, 1, length, file) != length || fclose(file) != 0) {
-        perror(path);
-        exit(2);
-    }
-}
-
 /* The image has n at byte 3. */
 static void load(struct table *t)
 {
     uint64_t refused;
-    t->n = t->image.length < 29 ? 0 : landovireph_get(t->image.at, 3);
-    if (t->sums.length != 16 * t->n) {
-        fprintf(stderr, "tidy: image and sums are not of one table\n");
-        exit(2);
-    }
-    t->words = memory(8 * t->n);
-    t->flags = memory(t->n);
+    t->n = t->image.length < 11 ? 0 : landovireph_get(t->image.at, 3);
+    if (t->sums.length % 16 != 0 || t->sums.length / 16 != t->n)
+        give_up(2, "image and sums", "they are not of one table");
+    t->words = memory(t->n, 8);
+    t->flags = memory(t->n, 1);
     refused = landovireph_funnel_open(t->n, RESERVE_EXPONENT, SEED, WORD_CAP, t->state, sizeof t->state, t->words, 8 * t->n, t->flags,
                                       t->n, t->answer, sizeof t->answer);
     if (refused != 0)
-        give_up("the table cannot be opened", refused);
+        give_up(1, "the table cannot be opened", landovireph_refusal_name(refused));
     refused = landovireph_funnel_load(t->state, sizeof t->state, t->words, 8 * t->n, t->flags, t->n, t->image.at,
                                       t->image.length, t->answer, sizeof t->answer);
     if (refused != 0)
-        give_up("the image cannot be loaded", refused);
+        give_up(1, "the image cannot be loaded", landovireph_refusal_name(refused));
 }
 
 /* A slot vacant again, its sum and weight 0. */
@@ -116,23 +72,25 @@ static void write_image(struct table *t, const char *path)
     uint64_t refused = landovireph_funnel_write(t->state, sizeof t->state, t->words, 8 * t->n, t->flags, t->n, label, sizeof label,
                                                 t->image.at, t->image.length, t->answer, sizeof t->answer);
     if (refused != 0)
-        give_up("the image cannot be written", refused);
-    write_file(path, t->image.at, (size_t)landovireph_get(t->answer, LANDOVIREPH_ANSWER_IMAGE_BYTES));
+        give_up(1, "the image cannot be written", landovireph_refusal_name(refused));
+    write_part(path, t->image.at, (size_t)landovireph_get(t->answer, LANDOVIREPH_ANSWER_IMAGE_BYTES));
 }
 
 int main(int count, char **words)
 {
     struct table t;
-    if (count != 5) {
-        fprintf(stderr, "usage: tidy IMAGE SUMS TIDIED-IMAGE TIDIED-SUMS\n");
-        return 2;
-    }
-    t.image = read_file(words[1]);
-    t.sums = read_file(words[2]);
+    uint64_t taken;
+    if (count != 5)
+        give_up(2, "usage", "tidy IMAGE SUMS TIDIED-IMAGE TIDIED-SUMS");
+    t.image = read_file(words[1], (size_t)landovireph_image_bytes(MOST_SLOTS, 64));
+    t.sums = read_file(words[2], 16 * MOST_SLOTS);
     load(&t);
-    printf("%" PRIu64 " cells of the border taken out\n", take_border_out(&t));
+    taken = take_border_out(&t);
     write_image(&t, words[3]);
-    write_file(words[4], t.sums.at, t.sums.length);
+    write_part(words[4], t.sums.at, t.sums.length);
+    keep_parts();
+    printf("%" PRIu64 " cells of the border taken out\n", taken);
+    finish_printing();
     free(t.image.at);
     free(t.sums.at);
     free(t.words);

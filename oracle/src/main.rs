@@ -30,8 +30,8 @@ fn main() {
     let words: Vec<String> = std::env::args().skip(1).collect();
     let words: Vec<&str> = words.iter().map(String::as_str).collect();
     match words.as_slice() {
-        ["answer"] => answer_all(rules::Bounds::REPLAY),
-        ["answer", "--any-size"] => answer_all(rules::Bounds::NONE),
+        ["answer"] => answer_all(rules::Bounds::REPLAY).unwrap_or_else(|error| complain(error)),
+        ["answer", "--any-size"] => answer_all(rules::Bounds::NONE).unwrap_or_else(|error| complain(error)),
         ["generate", size, seed, groups @ ..] => generate::generate(size, seed, groups),
         ["sample", groups @ ..] => generate::sample(groups),
         ["differences", name, commands, ours, theirs] => {
@@ -53,22 +53,26 @@ fn main() {
     }
 }
 
+/// Ends the program where commands cannot be read or answers not written.
+fn complain(error: std::io::Error) -> ! {
+    eprintln!("oracle: commands cannot be read, or answers not written: {error}");
+    std::process::exit(2);
+}
+
 /// One answer a line; a last line may lack its newline.
-fn answer_all(bounds: rules::Bounds) {
+fn answer_all(bounds: rules::Bounds) -> std::io::Result<()> {
     let mut input = std::io::BufReader::with_capacity(1 << 16, std::io::stdin().lock());
     let mut output = std::io::BufWriter::with_capacity(1 << 16, std::io::stdout().lock());
     let mut line = Vec::new();
     loop {
         line.clear();
-        if input.read_until(b'\n', &mut line).expect("readable input") == 0 {
-            break;
+        if input.read_until(b'\n', &mut line)? == 0 {
+            return output.flush();
         }
         if line.last() == Some(&b'\n') {
             line.pop();
         }
-        let answer = answer::answer(&line, bounds);
-        output.write_all(answer.as_bytes()).expect("writable output");
-        output.write_all(b"\n").expect("writable output");
+        output.write_all(answer::answer(&line, bounds).as_bytes())?;
+        output.write_all(b"\n")?;
     }
-    output.flush().expect("writable output");
 }
