@@ -9,13 +9,14 @@ ghost use Rattle.funnel.specs.Search.{searchOf};
 ghost use Rattle.funnel.specs.Stop.{BucketStops, Halts};
 ghost use Rattle.lent.specs.Lent.{wordsOf};
 use crate::word::word_at;
+use funnel::scan::halted;
 use funnel::table::Halt;
 use funnel::table::Search;
 use funnel::table::Stop;
 use words::place::GlobalSlot;
 use words::place::Place;
 
-// The search along a bucket of w slots that starts at the slot `from`, with some probes made before.
+// The search along a bucket of w slots that starts at the slot `from`, for an even w, with some probes made before.
 pub fn scan(
     words: &[u8],
     flags: &[u8],
@@ -26,38 +27,11 @@ pub fn scan(
     w: u64,
     probes: u64,
 ) -> Search
-    requires { ⌜ ((from + w) * 8 ≤ length (now words)) × (from + w ≤ length (now flags)) × (probes + w < 2 ^ 64) ⌝ }
+    requires { ⌜ (from + w ≤ length (now flags)) × (length (now words) ≡ length (now flags) * 8) × (probes + w < 2 ^ 64) × (w % 2 ≡ 0) ⌝ }
     ensures { λ r. ⌜ r ≡ searchOf (wordsOf (now (words .entry))) (now (flags .entry)) identity (run (bucketFrom level bucket from 0 w)) probes ⌝ }
 {
-    let mut i = 0;
-    while i < w {
-        let at = from + i;
-        let s = at as usize;
-        if flags[s] == 0 {
-            return Search::Vacant {
-                probes: probes + i + 1,
-                place: Place::Ordinary {
-                    level,
-                    bucket,
-                    slot_in_bucket: i,
-                    global_slot: GlobalSlot(at),
-                },
-            };
-        }
-        if word_at(words, at) == identity {
-            return Search::Hit {
-                probes: probes + i + 1,
-                place: Place::Ordinary {
-                    level,
-                    bucket,
-                    slot_in_bucket: i,
-                    global_slot: GlobalSlot(at),
-                },
-            };
-        }
-        i += 1;
-    }
-    Search::Full { probes: probes + w }
+    let stop = halt(words, flags, identity, from, w);
+    halted(stop, level, bucket, from, w, probes)
 }
 
 // Where a bucket of w slots stops a search, as in funnel's `halt`: the loop holds an index and no slot, so that it needs few registers.
