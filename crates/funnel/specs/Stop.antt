@@ -1,7 +1,7 @@
 -- Where a search stops, told by the slot alone. Assumes nothing.
 use mathlib.Core.Path.{_≡_}
 use mathlib.Core.List.{List}
-use Prim.Native.Nat.{ℕ, _+_, _<_}
+use Prim.Native.Nat.{ℕ, _+_, _*_, _<_, _^_}
 use lib.ListN.{getD}
 use Rattle.words.specs.declared.place.Place.{Place}
 use Rattle.words.specs.declared.place.Place.the-variants as place
@@ -63,12 +63,19 @@ pub record Halts (words flags : List ℕ) (identity from w : ℕ) (r : Halt) : T
   pub inside : Inside w r
   pub says : (level bucket k : ℕ) → searchOf words flags identity (run (bucketFrom level bucket from 0 w)) k ≡ haltOf level bucket from w k r
 
--- what a walk over the levels says of the search along them
-unfoldable pub WalksTo : Walk → Search → Type 0
-WalksTo (walk.Hit probes level bucket index slot) found = found ≡ search.Hit probes (place.Ordinary level bucket index (record { 0 = slot }))
-WalksTo (walk.Vacant probes level bucket index slot) found = found ≡ search.Vacant probes (place.Ordinary level bucket index (record { 0 = slot }))
-WalksTo (walk.Past probes) found = found ≡ search.Full probes
-WalksTo walk.Unsettled found = Unit {0}
+-- a bucket of a level halts the search along the levels, which are beta slots each; the numbers of its answer are small
+pub record HaltedIn (beta level bucket from : ℕ) (r : Halt) (found : Search) : Type 0 where
+  pub inside : Inside beta r
+  pub slots : from + beta < 2 ^ 64
+  pub probes : level * beta + beta < 2 ^ 64
+  pub is : found ≡ haltOf level bucket from beta (level * beta) r
+
+-- what a walk over alpha levels says of the search along them
+unfoldable pub WalksTo : (alpha beta : ℕ) → Walk → Search → Type 0
+WalksTo alpha beta (walk.Hit level bucket from i) found = HaltedIn beta level bucket from (halt.Hit i) found
+WalksTo alpha beta (walk.Vacant level bucket from i) found = HaltedIn beta level bucket from (halt.Vacant i) found
+WalksTo alpha beta walk.Past found = found ≡ search.Full (alpha * beta)
+WalksTo alpha beta walk.Unsettled found = Unit {0}
 
 -- the bucket of a level by its first word, where there is such a level
 pub record FirstAhead (key : FunnelKey) (counts : List ℕ) (alpha level bucket : ℕ) : Type 0 where

@@ -1,12 +1,11 @@
 -- Laws of where a search stops, as loops use them. Assumes nothing.
 use mathlib.Core.List.{List}
 use mathlib.Core.Path.{_≡_, refl, ap, sym, subst, _∙_}
-use Prim.Native.Nat.{ℕ, _+_, _-_, _*_, _≤_, _<_}
+use Prim.Native.Nat.{ℕ, _+_, _-_, _*_, _≤_, _<_, _^_}
 use native.Mathlib.Nat.{zero-mul, mul-le-mul-left}
 use native.Mathlib.Omega.{arith}
 use lib.ListN.{getD}
 use Rattle.geometry.specs.FunnelLaws.{plan-facts}
-use Rattle.words.specs.declared.place.Place.the-variants as place
 use Rattle.probe.specs.declared.counter.Domain.the-variants as domain
 use Rattle.probe.specs.declared.range.Drawn.the-variants as drawn
 use Rattle.probe.specs.declared.word.FunnelKey.{FunnelKey}
@@ -26,7 +25,7 @@ use Rattle.funnel.specs.StageLaws.{BucketLeft, bucket-none, bucket-vacan
 use Rattle.funnel.specs.FindLaws.{levelsPart, find-levels}
 use Rattle.funnel.specs.PlanLaws.{level-none, level-room, bucket-room}
 use Rattle.funnel.specs.Valid.{Valid, Keyed}
-use Rattle.funnel.specs.Stop.{StopsAt, BucketStops, haltOf, Inside, Halts, WalksTo, FirstAhead}
+use Rattle.funnel.specs.Stop.{StopsAt, BucketStops, haltOf, Inside, Halts, HaltedIn, WalksTo, FirstAhead}
 
 -- a search that stopped has stopped for good
 pub stops-resume : (words flags : List ℕ) (identity : ℕ) (q : Path) (r : Stop) (found : Search) (P Q : Type 0) → (r ≡ stop.Nowhere → Q)
@@ -81,13 +80,15 @@ module _ (words flags : List ℕ) (identity from w : ℕ) where
     unfolding StopsAt haltOf
     halts-nowhere e level bucket k = h .says level bucket k ∙ ap (haltOf level bucket from w k) e
 
-    pub inside-hit : (i : ℕ) → r ≡ halt.Hit i → i < w
-    unfolding Inside
-    inside-hit i e = subst (Inside w) e (h .inside)
+-- the index where a bucket of w slots halts a search
+module _ (w : ℕ) (r : Halt) (h : Inside w r) (i : ℕ) where
+  pub inside-hit : r ≡ halt.Hit i → i < w
+  unfolding Inside
+  inside-hit e = subst (Inside w) e h
 
-    pub inside-vacant : (i : ℕ) → r ≡ halt.Vacant i → i < w
-    unfolding Inside
-    inside-vacant i e = subst (Inside w) e (h .inside)
+  pub inside-vacant : r ≡ halt.Vacant i → i < w
+  unfolding Inside
+  inside-vacant e = subst (Inside w) e h
 
 -- ---- the levels, of which none before the given one stops the search
 
@@ -161,28 +162,30 @@ module _ (table : FunnelTable) (counts words flags : List ℕ) (identity : ℕ) 
           (haltOf level bucket (start + bucket * table .plan .beta) (table .plan .beta) (level * table .plan .beta) r)
       walks-found = passed-found ∙ ap (resume words flags identity _) (s .says level bucket (level * table .plan .beta))
 
-      pub walks-hit : r ≡ halt.Hit i
-          → WalksTo (walk.Hit (level * table .plan .beta + i + 1) level bucket i (start + bucket * table .plan .beta + i))
-          (searchOf words flags identity (levelsPart table counts words flags identity) 0)
-      unfolding resume haltOf WalksTo
-      walks-hit e = walks-found ∙ rw e
+      walks-slots : start + bucket * table .plan .beta + table .plan .beta < 2 ^ 64
+      walks-slots = let f = plan-facts (valid .planned) in let l = passed-room in omega arith
 
-      pub walks-vacant : r ≡ halt.Vacant i
-          → WalksTo (walk.Vacant (level * table .plan .beta + i + 1) level bucket i (start + bucket * table .plan .beta + i))
-          (searchOf words flags identity (levelsPart table counts words flags identity) 0)
-      unfolding resume haltOf WalksTo
-      walks-vacant e = walks-found ∙ rw e
-
-      -- the probes up to a slot are few
-      pub walks-few : i < table .plan .beta → level * table .plan .beta + i + 1 ≤ 6373
-      walks-few l =
+      walks-probes : level * table .plan .beta + table .plan .beta < 2 ^ 64
+      walks-probes =
           let f = plan-facts (valid .planned) in
           let m : level * table .plan .beta ≤ level * 54 = mul-le-mul-left level (omega arith) in
           omega arith
 
+      pub walks-hit : r ≡ halt.Hit i
+          → WalksTo (table .plan .alpha) (table .plan .beta) (walk.Hit level bucket (start + bucket * table .plan .beta) i)
+          (searchOf words flags identity (levelsPart table counts words flags identity) 0)
+      unfolding resume haltOf WalksTo
+      walks-hit e = record { inside = subst (Inside (table .plan .beta)) e (s .inside); slots = walks-slots; probes = walks-probes; is = walks-found ∙ rw e }
+
+      pub walks-vacant : r ≡ halt.Vacant i
+          → WalksTo (table .plan .alpha) (table .plan .beta) (walk.Vacant level bucket (start + bucket * table .plan .beta) i)
+          (searchOf words flags identity (levelsPart table counts words flags identity) 0)
+      unfolding resume haltOf WalksTo
+      walks-vacant e = record { inside = subst (Inside (table .plan .beta)) e (s .inside); slots = walks-slots; probes = walks-probes; is = walks-found ∙ rw e }
+
   -- past the levels, each of their slots has been read
   pub walks-past : {level start bucket : ℕ} → LevelsPassed level start bucket → table .plan .alpha ≤ level
-      → WalksTo (walk.Past (table .plan .alpha * table .plan .beta)) (searchOf words flags identity (levelsPart table counts words flags identity) 0)
+      → WalksTo (table .plan .alpha) (table .plan .beta) walk.Past (searchOf words flags identity (levelsPart table counts words flags identity) 0)
   unfolding WalksTo
   walks-past {level} p h =
       let e : level ≡ table .plan .alpha = omega (arith, p .within) in
@@ -191,24 +194,30 @@ module _ (table : FunnelTable) (counts words flags : List ℕ) (identity : ℕ) 
 
 -- what a walk over the levels says of the whole search
 module _ (table : FunnelTable) (counts words flags : List ℕ) (identity : ℕ) (r : Walk)
-    (w : WalksTo r (searchOf words flags identity (levelsPart table counts words flags identity) 0)) where
+    (w : WalksTo (table .plan .alpha) (table .plan .beta) r (searchOf words flags identity (levelsPart table counts words flags identity) 0)) where
   abbrev levels : Search
   levels = searchOf words flags identity (levelsPart table counts words flags identity) 0
 
-  pub walked-hit : (probes level bucket index slot : ℕ) → r ≡ walk.Hit probes level bucket index slot
-      → search.Hit probes (place.Ordinary level bucket index (record { 0 = slot })) ≡ findOf table counts words flags identity
-  unfolding WalksTo resume
-  walked-hit probes level bucket index slot e =
-      let a : levels ≡ search.Hit probes (place.Ordinary level bucket index (record { 0 = slot })) = subst (λ (x : Walk). WalksTo x levels) e w in
-      sym (find-levels table counts words flags identity (search.Hit probes (place.Ordinary level bucket index (record { 0 = slot }))) (sym a))
+  module _ (level bucket from i : ℕ) where
+    pub walked-hit : r ≡ walk.Hit level bucket from i → HaltedIn (table .plan .beta) level bucket from (halt.Hit i) levels
+    unfolding WalksTo
+    walked-hit e = subst (λ (x : Walk). WalksTo (table .plan .alpha) (table .plan .beta) x levels) e w
 
-  pub walked-vacant : (probes level bucket index slot : ℕ) → r ≡ walk.Vacant probes level bucket index slot
-      → search.Vacant probes (place.Ordinary level bucket index (record { 0 = slot })) ≡ findOf table counts words flags identity
-  unfolding WalksTo resume
-  walked-vacant probes level bucket index slot e =
-      let a : levels ≡ search.Vacant probes (place.Ordinary level bucket index (record { 0 = slot })) = subst (λ (x : Walk). WalksTo x levels) e w in
-      sym (find-levels table counts words flags identity (search.Vacant probes (place.Ordinary level bucket index (record { 0 = slot }))) (sym a))
+    pub walked-vacant : r ≡ walk.Vacant level bucket from i → HaltedIn (table .plan .beta) level bucket from (halt.Vacant i) levels
+    unfolding WalksTo
+    walked-vacant e = subst (λ (x : Walk). WalksTo (table .plan .alpha) (table .plan .beta) x levels) e w
 
-  pub walked-past : (probes : ℕ) → r ≡ walk.Past probes → levels ≡ search.Full probes
+    -- a bucket that halts the search along the levels halts the whole search
+    pub found-hit : (found : Search) → found ≡ haltOf level bucket from (table .plan .beta) (level * table .plan .beta) (halt.Hit i) → r ≡ walk.Hit level bucket from i
+        → found ≡ findOf table counts words flags identity
+    unfolding resume haltOf
+    found-hit found f e = f ∙ sym (find-levels table counts words flags identity _ (sym (walked-hit e .is)))
+
+    pub found-vacant : (found : Search) → found ≡ haltOf level bucket from (table .plan .beta) (level * table .plan .beta) (halt.Vacant i) → r ≡ walk.Vacant level bucket from i
+        → found ≡ findOf table counts words flags identity
+    unfolding resume haltOf
+    found-vacant found f e = f ∙ sym (find-levels table counts words flags identity _ (sym (walked-vacant e .is)))
+
+  pub walked-past : r ≡ walk.Past → levels ≡ search.Full (table .plan .alpha * table .plan .beta)
   unfolding WalksTo
-  walked-past probes e = subst (λ (x : Walk). WalksTo x levels) e w
+  walked-past e = subst (λ (x : Walk). WalksTo (table .plan .alpha) (table .plan .beta) x levels) e w

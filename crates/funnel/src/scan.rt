@@ -5,14 +5,14 @@ ghost use Prim.Native.Nat.{_+_, _*_, _%_, _≤_, _<_, _^_};
 ghost use lib.ListN.{length};
 ghost use Rattle.funnel.specs.Path.{slotOf, run, bucketFrom, pairsFrom};
 ghost use Rattle.funnel.specs.Search.{searchOf};
-ghost use Rattle.funnel.specs.Stop.{BucketStops, Halts};
+ghost use Rattle.funnel.specs.Stop.{BucketStops, haltOf, Inside, Halts};
 use crate::table::Halt;
 use crate::table::Search;
 use crate::table::Stop;
 use words::place::GlobalSlot;
 use words::place::Place;
 
-// The search along a bucket of w slots that starts at the slot `from`, with some probes made before.
+// The search along a bucket of w slots that starts at the slot `from`, for an even w, with some probes made before.
 pub fn scan(
     words: &[u64],
     flags: &[u8],
@@ -23,38 +23,39 @@ pub fn scan(
     w: u64,
     probes: u64,
 ) -> Search
-    requires { ⌜ (from + w ≤ length (now words)) × (from + w ≤ length (now flags)) × (probes + w < 2 ^ 64) ⌝ }
+    requires { ⌜ (from + w ≤ length (now words)) × (from + w ≤ length (now flags)) × (probes + w < 2 ^ 64) × (w % 2 ≡ 0) ⌝ }
     ensures { λ r. ⌜ r ≡ searchOf (now (words .entry)) (now (flags .entry)) identity (run (bucketFrom level bucket from 0 w)) probes ⌝ }
 {
-    let mut i = 0;
-    while i < w {
-        let at = from + i;
-        let s = at as usize;
-        if flags[s] == 0 {
-            return Search::Vacant {
-                probes: probes + i + 1,
-                place: Place::Ordinary {
-                    level,
-                    bucket,
-                    slot_in_bucket: i,
-                    global_slot: GlobalSlot(at),
-                },
-            };
-        }
-        if words[s] == identity {
-            return Search::Hit {
-                probes: probes + i + 1,
-                place: Place::Ordinary {
-                    level,
-                    bucket,
-                    slot_in_bucket: i,
-                    global_slot: GlobalSlot(at),
-                },
-            };
-        }
-        i += 1;
+    let stop = halt(words, flags, identity, from, w);
+    halted(stop, level, bucket, from, w, probes)
+}
+
+// What such a bucket answers a search with, by where it halts.
+pub fn halted(halt: Halt, level: u64, bucket: u64, from: u64, w: u64, probes: u64) -> Search
+    requires { ⌜ Inside w halt × (from + w < 2 ^ 64) × (probes + w < 2 ^ 64) ⌝ }
+    ensures { λ r. ⌜ r ≡ haltOf level bucket from w probes halt ⌝ }
+{
+    match halt {
+        Halt::Hit { index } => Search::Hit {
+            probes: probes + index + 1,
+            place: Place::Ordinary {
+                level,
+                bucket,
+                slot_in_bucket: index,
+                global_slot: GlobalSlot(from + index),
+            },
+        },
+        Halt::Vacant { index } => Search::Vacant {
+            probes: probes + index + 1,
+            place: Place::Ordinary {
+                level,
+                bucket,
+                slot_in_bucket: index,
+                global_slot: GlobalSlot(from + index),
+            },
+        },
+        Halt::Nowhere => Search::Full { probes: probes + w },
     }
-    Search::Full { probes: probes + w }
 }
 
 // Where a bucket of w slots stops a search, for an even w: two slots a turn, no place and no count of probes. The loop holds an index and

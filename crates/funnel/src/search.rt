@@ -10,6 +10,7 @@ ghost use Rattle.funnel.specs.Stop.{StopsAt, WalksTo, FirstAhead};
 ghost use Rattle.funnel.specs.declared.table.Search.the-variants.{Full};
 ghost use Rattle.funnel.specs.Valid.{Valid, Keyed, SpecialRoom, Drawable, DrawnAhead};
 use crate::scan::halt;
+use crate::scan::halted;
 use crate::scan::pass;
 use crate::scan::read;
 use crate::scan::scan;
@@ -45,38 +46,24 @@ pub fn find(
 {
     let key = funnel_key(table.seed, identity);
     match walk(table, counts, words, flags, identity, key) {
-        Walk::Hit {
-            probes,
-            level,
-            bucket,
-            index,
-            slot,
-        } => Search::Hit {
-            probes,
-            place: Place::Ordinary {
+        Walk::Hit(level, bucket, from, index) => {
+            let beta = table.plan.beta;
+            halted(Halt::Hit { index }, level, bucket, from, beta, level * beta)
+        }
+        Walk::Vacant(level, bucket, from, index) => {
+            let beta = table.plan.beta;
+            halted(
+                Halt::Vacant { index },
                 level,
                 bucket,
-                slot_in_bucket: index,
-                global_slot: GlobalSlot(slot),
-            },
-        },
-        Walk::Vacant {
-            probes,
-            level,
-            bucket,
-            index,
-            slot,
-        } => Search::Vacant {
-            probes,
-            place: Place::Ordinary {
-                level,
-                bucket,
-                slot_in_bucket: index,
-                global_slot: GlobalSlot(slot),
-            },
-        },
-        Walk::Past { probes } => {
+                from,
+                beta,
+                level * beta,
+            )
+        }
+        Walk::Past => {
             let rest = table;
+            let probes = rest.plan.alpha * rest.plan.beta;
             search_special(rest, counts, words, flags, identity, key, probes)
         }
         Walk::Unsettled => {
@@ -142,7 +129,7 @@ fn search_special(
     search_fallback(table, fallback_start, words, flags, identity, key, more)
 }
 
-// The levels by first words, as `pass_levels` walks them, with the numbers of a place and the probes.
+// The levels by first words, as `pass_levels` walks them, with the numbers of a place.
 fn walk(
     table: FunnelTable,
     counts: &[u64; 118],
@@ -152,7 +139,7 @@ fn walk(
     key: FunnelKey,
 ) -> Walk
     requires { ⌜ Valid table (now counts) (now words) (now flags) × Keyed (table .seed) identity key ⌝ }
-    ensures { λ r. ⌜ WalksTo r (searchOf (now (words .entry)) (now (flags .entry)) identity (levelsFrom (table .plan) (now (counts .entry)) (table .seed) (table .«word_cap») identity 0 (table .plan .alpha)) 0) ⌝ }
+    ensures { λ r. ⌜ WalksTo (table .plan .alpha) (table .plan .beta) r (searchOf (now (words .entry)) (now (flags .entry)) identity (levelsFrom (table .plan) (now (counts .entry)) (table .seed) (table .«word_cap») identity 0 (table .plan .alpha)) 0) ⌝ }
 {
     let alpha = table.plan.alpha;
     let beta = table.plan.beta;
@@ -169,22 +156,10 @@ fn walk(
         let from = start + bucket * beta;
         match halt(words, flags, identity, from, beta) {
             Halt::Hit { index } => {
-                return Walk::Hit {
-                    probes: level * beta + index + 1,
-                    level,
-                    bucket,
-                    index,
-                    slot: from + index,
-                };
+                return Walk::Hit(level, bucket, from, index);
             }
             Halt::Vacant { index } => {
-                return Walk::Vacant {
-                    probes: level * beta + index + 1,
-                    level,
-                    bucket,
-                    index,
-                    slot: from + index,
-                };
+                return Walk::Vacant(level, bucket, from, index);
             }
             Halt::Nowhere => {
                 bucket = ahead;
@@ -193,9 +168,7 @@ fn walk(
             }
         }
     }
-    Walk::Past {
-        probes: alpha * beta,
-    }
+    Walk::Past
 }
 
 // "per level one bucket, slots in order"

@@ -39,25 +39,12 @@ pub enum Halt {
     Nowhere,
 }
 
-// Where a walk over the levels by first words ends, in numbers: at a slot, past them all, or before a level whose first word is rejected.
+// Where a walk over the levels by first words ends: at a slot, told by level, bucket, the bucket's first slot and the index in it; past
+// them all; or before a level whose first word is rejected.
 pub enum Walk {
-    Hit {
-        probes: u64,
-        level: u64,
-        bucket: u64,
-        index: u64,
-        slot: u64,
-    },
-    Vacant {
-        probes: u64,
-        level: u64,
-        bucket: u64,
-        index: u64,
-        slot: u64,
-    },
-    Past {
-        probes: u64,
-    },
+    Hit(u64, u64, u64, u64),
+    Vacant(u64, u64, u64, u64),
+    Past,
     Unsettled,
 }
 

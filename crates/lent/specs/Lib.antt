@@ -4,4 +4,3 @@ pub mod Valid
 pub mod ValidLaws
 pub mod PutLaws
 pub mod PlaceLaws
-pub mod ScanLaws

@@ -6,15 +6,17 @@ ghost use Prim.Native.Nat.{_+_, _*_, _%_, _≤_, _<_, _^_};
 ghost use lib.ListN.{length};
 ghost use Rattle.funnel.specs.Path.{slotOf, run, bucketFrom, pairsFrom};
 ghost use Rattle.funnel.specs.Search.{searchOf};
-ghost use Rattle.funnel.specs.Stop.{BucketStops};
+ghost use Rattle.funnel.specs.Stop.{BucketStops, Halts};
 ghost use Rattle.lent.specs.Lent.{wordsOf};
 use crate::word::word_at;
+use funnel::scan::halted;
+use funnel::table::Halt;
 use funnel::table::Search;
 use funnel::table::Stop;
 use words::place::GlobalSlot;
 use words::place::Place;
 
-// The search along a bucket of w slots that starts at the slot `from`, with some probes made before.
+// The search along a bucket of w slots that starts at the slot `from`, for an even w, with some probes made before.
 pub fn scan(
     words: &[u8],
     flags: &[u8],
@@ -25,64 +27,49 @@ pub fn scan(
     w: u64,
     probes: u64,
 ) -> Search
-    requires { ⌜ ((from + w) * 8 ≤ length (now words)) × (from + w ≤ length (now flags)) × (probes + w < 2 ^ 64) ⌝ }
+    requires { ⌜ (from + w ≤ length (now flags)) × (length (now words) ≡ length (now flags) * 8) × (probes + w < 2 ^ 64) × (w % 2 ≡ 0) ⌝ }
     ensures { λ r. ⌜ r ≡ searchOf (wordsOf (now (words .entry))) (now (flags .entry)) identity (run (bucketFrom level bucket from 0 w)) probes ⌝ }
+{
+    let stop = halt(words, flags, identity, from, w);
+    halted(stop, level, bucket, from, w, probes)
+}
+
+// Where a bucket of w slots stops a search, as in funnel's `halt`: the loop holds an index and no slot, so that it needs few registers.
+pub fn halt(words: &[u8], flags: &[u8], identity: u64, from: u64, w: u64) -> Halt
+    requires { ⌜ (from + w ≤ length (now flags)) × (length (now words) ≡ length (now flags) * 8) × (w % 2 ≡ 0) ⌝ }
+    ensures { λ r. ⌜ Halts (wordsOf (now (words .entry))) (now (flags .entry)) identity from w r ⌝ }
 {
     let mut i = 0;
     while i < w {
-        let at = from + i;
-        let s = at as usize;
-        if flags[s] == 0 {
-            return Search::Vacant {
-                probes: probes + i + 1,
-                place: Place::Ordinary {
-                    level,
-                    bucket,
-                    slot_in_bucket: i,
-                    global_slot: GlobalSlot(at),
-                },
-            };
+        let first = from + i;
+        if flags[first as usize] == 0 {
+            return Halt::Vacant { index: i };
         }
-        if word_at(words, at) == identity {
-            return Search::Hit {
-                probes: probes + i + 1,
-                place: Place::Ordinary {
-                    level,
-                    bucket,
-                    slot_in_bucket: i,
-                    global_slot: GlobalSlot(at),
-                },
-            };
+        if word_at(words, first) == identity {
+            return Halt::Hit { index: i };
         }
-        i += 1;
+        let second = from + i + 1;
+        if flags[second as usize] == 0 {
+            return Halt::Vacant { index: i + 1 };
+        }
+        if word_at(words, second) == identity {
+            return Halt::Hit { index: i + 1 };
+        }
+        i += 2;
     }
-    Search::Full { probes: probes + w }
+    Halt::Nowhere
 }
 
-// Where a bucket of w slots stops a search, for an even w: two slots a turn, no place and no count of probes.
+// The same by the slot.
 pub fn pass(words: &[u8], flags: &[u8], identity: u64, from: u64, w: u64) -> Stop
     requires { ⌜ (from + w ≤ length (now flags)) × (length (now words) ≡ length (now flags) * 8) × (w % 2 ≡ 0) ⌝ }
     ensures { λ r. ⌜ BucketStops (wordsOf (now (words .entry))) (now (flags .entry)) identity from w r ⌝ }
 {
-    let mut i = 0;
-    while i < w {
-        let slot = from + i;
-        if flags[slot as usize] == 0 {
-            return Stop::Vacant { slot };
-        }
-        if word_at(words, slot) == identity {
-            return Stop::Hit { slot };
-        }
-        let next = slot + 1;
-        if flags[next as usize] == 0 {
-            return Stop::Vacant { slot: next };
-        }
-        if word_at(words, next) == identity {
-            return Stop::Hit { slot: next };
-        }
-        i += 2;
+    match halt(words, flags, identity, from, w) {
+        Halt::Hit { index } => Stop::Hit { slot: from + index },
+        Halt::Vacant { index } => Stop::Vacant { slot: from + index },
+        Halt::Nowhere => Stop::Nowhere,
     }
-    Stop::Nowhere
 }
 
 // The reading of one place, whose slot is `at`, with some probes made before.

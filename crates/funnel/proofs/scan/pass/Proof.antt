@@ -12,13 +12,13 @@ enum-known-index : tie.Need-enum-known-index
 enum-known-index c = search needs
 
 add-t10 : tie.Need-add-t10
-add-t10 c = let l = inside-hit _ _ _ _ _ _ (c .before .before .before .halt .ensures) _ (c .before .index .given .1) in omega arith
+add-t10 c = let l = inside-hit _ _ (c .before .before .before .halt .ensures .inside) _ (c .before .index .given .1) in omega arith
 
 enum-known-index-2 : tie.Need-enum-known-index-2
 enum-known-index-2 c = search needs
 
 add-t11 : tie.Need-add-t11
-add-t11 c = let l = inside-vacant _ _ _ _ _ _ (c .before .before .before .halt .ensures) _ (c .before .index2 .given .1) in omega arith
+add-t11 c = let l = inside-vacant _ _ (c .before .before .before .halt .ensures .inside) _ (c .before .index2 .given .1) in omega arith
 
 enum-told : tie.Need-enum-told
 enum-told c = search needs

@@ -1,6 +1,7 @@
 -- `funnel::search::find` meets its contract. What the walk settles is the answer of the whole search. Assumes nothing.
+use native.Mathlib.Omega.{arith}
 use borrow.Author.Needs.{needs}
-use Rattle.funnel.specs.StopLaws.{walked-hit, walked-vacant, walked-past}
+use Rattle.funnel.specs.StopLaws.{walked-hit, walked-vacant, walked-past, found-hit, found-vacant, levels-few}
 use Rattle.funnel.proofs.search.find.Statement.{statement}
 use Rattle.funnel.proofs.search.find.Tie as tie
 
@@ -10,29 +11,44 @@ funnel-key-requires c κs = search needs
 walk-requires : tie.Need-walk-requires
 walk-requires c κs = (c .before .before .before .pre, record { is-inner = c .funnel-key .ensures .0; is-outer = c .funnel-key .ensures .1 })
 
-enum-known-probes : tie.Need-enum-known-probes
-enum-known-probes c = search needs
+enum-known-level : tie.Need-enum-known-level
+enum-known-level c = search needs
 
-enum-known-probes-2 : tie.Need-enum-known-probes-2
-enum-known-probes-2 c = search needs
+mul-halted : tie.Need-mul-halted
+mul-halted c = let h = walked-hit (c .before .before .before .before .before .before .before .args .table) _ _ _ _ _ (c .before .before .before .walk .ensures) _ _ _ _ (c .before .level .given .1) in omega (arith, h .probes)
 
-enum-known-probes-3 : tie.Need-enum-known-probes-3
-enum-known-probes-3 c = search needs
+halted-requires : tie.Need-halted-requires
+halted-requires c κs = let h = walked-hit (c .before .before .before .before .before .before .before .args .table) _ _ _ _ _ (c .before .before .before .walk .ensures) _ _ _ _ (c .before .level .given .1) in (h .inside, h .slots, h .probes)
 
-search-special-requires : tie.Need-search-special-requires
-search-special-requires c κs = (c .before .before .before .before .before .before .before .pre, record { is-inner = c .before .before .before .before .funnel-key .ensures .0; is-outer = c .before .before .before .before .funnel-key .ensures .1 }, walked-past (c .before .before .before .before .before .before .before .args .table) _ _ _ _ _ (c .before .before .before .walk .ensures) _ (c .before .probes3 .given .1))
+enum-known-level-2 : tie.Need-enum-known-level-2
+enum-known-level-2 c = search needs
+
+mul-halted-2 : tie.Need-mul-halted-2
+mul-halted-2 c = let h = walked-vacant (c .before .before .before .before .before .before .before .args .table) _ _ _ _ _ (c .before .before .before .walk .ensures) _ _ _ _ (c .before .level2 .given .1) in omega (arith, h .probes)
+
+halted-requires-2 : tie.Need-halted-requires-2
+halted-requires-2 c κs = let h = walked-vacant (c .before .before .before .before .before .before .before .args .table) _ _ _ _ _ (c .before .before .before .walk .ensures) _ _ _ _ (c .before .level2 .given .1) in (h .inside, h .slots, h .probes)
 
 enum-told : tie.Need-enum-told
 enum-told c = search needs
+
+mul-probes : tie.Need-mul-probes
+mul-probes c = let f = levels-few (c .before .before .before .before .before .before .before .pre) in omega (arith, f)
+
+search-special-requires : tie.Need-search-special-requires
+search-special-requires c κs = (c .before .before .before .before .before .before .before .pre, record { is-inner = c .before .before .before .before .funnel-key .ensures .0; is-outer = c .before .before .before .before .funnel-key .ensures .1 }, walked-past (c .before .before .before .before .before .before .before .args .table) _ _ _ _ _ (c .before .before .before .walk .ensures) (c .before .enum-told .given .1))
+
+enum-told-2 : tie.Need-enum-told-2
+enum-told-2 c = search needs
 
 find-drawn-requires : tie.Need-find-drawn-requires
 find-drawn-requires c κs = (c .before .before .before .before .before .before .pre, record { is-inner = c .before .before .before .funnel-key .ensures .0; is-outer = c .before .before .before .funnel-key .ensures .1 })
 
 returns : tie.Need-returns
-returns c = walked-hit _ _ _ _ _ _ (c .before .before .before .walk .ensures) _ _ _ _ _ (c .before .probes .given .1)
+returns c = found-hit _ _ _ _ _ _ (c .before .before .before .before .walk .ensures) _ _ _ _ _ (c .halted .ensures) (c .before .before .level .given .1)
 
 returns-2 : tie.Need-returns-2
-returns-2 c = walked-vacant _ _ _ _ _ _ (c .before .before .before .walk .ensures) _ _ _ _ _ (c .before .probes2 .given .1)
+returns-2 c = found-vacant _ _ _ _ _ _ (c .before .before .before .before .walk .ensures) _ _ _ _ _ (c .halted2 .ensures) (c .before .before .level2 .given .1)
 
 returns-3 : tie.Need-returns-3
 returns-3 c = c .search-special .ensures
@@ -46,11 +62,16 @@ find-spec =
     (tie.spec
     funnel-key-requires
     walk-requires
-    enum-known-probes
-    enum-known-probes-2
-    enum-known-probes-3
-    search-special-requires
+    enum-known-level
+    mul-halted
+    halted-requires
+    enum-known-level-2
+    mul-halted-2
+    halted-requires-2
     enum-told
+    mul-probes
+    search-special-requires
+    enum-told-2
     find-drawn-requires
     returns
     returns-2

@@ -5,7 +5,7 @@ use borrow.Author.Needs.{needs}
 use Rattle.geometry.specs.FunnelLaws.{plan-facts}
 use Rattle.funnel.specs.PlanLaws.{valid-drawable, level-room}
 use Rattle.funnel.specs.Stop.{WalksTo}
-use Rattle.funnel.specs.StopLaws.{LevelsPassed, passed-none, passed-room, passed-more, halts-nowhere, inside-hit, inside-vacant, walks-hit, walks-vacant, walks-few, walks-past, levels-few}
+use Rattle.funnel.specs.StopLaws.{LevelsPassed, passed-none, passed-room, passed-more, halts-nowhere, walks-hit, walks-vacant, walks-past}
 use Rattle.funnel.proofs.search.walk.Statement.{statement}
 use Rattle.funnel.proofs.search.walk.Tie as tie
 
@@ -55,68 +55,12 @@ halt-requires c κs = let v = c .before .before .before .before .before .before 
 enum-known-index : tie.Need-enum-known-index Inv-loop μ-loop
 enum-known-index c = search needs
 
-mul-t24 : tie.Need-mul-t24 Inv-loop μ-loop
-mul-t24 c = let v = c .before .before .before .before .before .before .before .before .before .before .before .before .pre .0 in
-    let l = inside-hit _ _ _ _ _ _ (c .before .before .before .halt .ensures) _ (c .before .index .given .1) in
-    let r = passed-room _ _ _ _ _ _ v (c .before .before .before .before .before .before .before .before .before .before .before .before .pre .1) (c .before .before .before .before .before .before .before .before .loop .inv) (c .before .before .before .before .before .before .before .loop-test .taken) (omega (arith, c .before .before .before .before .before .if1 .left)) in
-    let m = walks-few _ _ _ _ _ _ v (c .before .before .before .before .before .before .before .before .before .before .before .before .pre .1) (c .before .before .before .before .before .before .before .before .loop .inv) (c .before .before .before .before .before .before .before .loop-test .taken) (omega (arith, c .before .before .before .before .before .if1 .left)) _ (c .before .before .before .halt .ensures) _ l in
-    let f = plan-facts (v .planned) in omega arith
-
-add-t25 : tie.Need-add-t25 Inv-loop μ-loop
-add-t25 c = let v = c .before .before .before .before .before .before .before .before .before .before .before .before .pre .0 in
-    let l = inside-hit _ _ _ _ _ _ (c .before .before .before .halt .ensures) _ (c .before .index .given .1) in
-    let r = passed-room _ _ _ _ _ _ v (c .before .before .before .before .before .before .before .before .before .before .before .before .pre .1) (c .before .before .before .before .before .before .before .before .loop .inv) (c .before .before .before .before .before .before .before .loop-test .taken) (omega (arith, c .before .before .before .before .before .if1 .left)) in
-    let m = walks-few _ _ _ _ _ _ v (c .before .before .before .before .before .before .before .before .before .before .before .before .pre .1) (c .before .before .before .before .before .before .before .before .loop .inv) (c .before .before .before .before .before .before .before .loop-test .taken) (omega (arith, c .before .before .before .before .before .if1 .left)) _ (c .before .before .before .halt .ensures) _ l in
-    let f = plan-facts (v .planned) in omega arith
-
-add-t26 : tie.Need-add-t26 Inv-loop μ-loop
-add-t26 c = let v = c .before .before .before .before .before .before .before .before .before .before .before .before .pre .0 in
-    let l = inside-hit _ _ _ _ _ _ (c .before .before .before .halt .ensures) _ (c .before .index .given .1) in
-    let r = passed-room _ _ _ _ _ _ v (c .before .before .before .before .before .before .before .before .before .before .before .before .pre .1) (c .before .before .before .before .before .before .before .before .loop .inv) (c .before .before .before .before .before .before .before .loop-test .taken) (omega (arith, c .before .before .before .before .before .if1 .left)) in
-    let m = walks-few _ _ _ _ _ _ v (c .before .before .before .before .before .before .before .before .before .before .before .before .pre .1) (c .before .before .before .before .before .before .before .before .loop .inv) (c .before .before .before .before .before .before .before .loop-test .taken) (omega (arith, c .before .before .before .before .before .if1 .left)) _ (c .before .before .before .halt .ensures) _ l in
-    let f = plan-facts (v .planned) in omega arith
-
-add-t27 : tie.Need-add-t27 Inv-loop μ-loop
-add-t27 c = let v = c .before .before .before .before .before .before .before .before .before .before .before .before .pre .0 in
-    let l = inside-hit _ _ _ _ _ _ (c .before .before .before .halt .ensures) _ (c .before .index .given .1) in
-    let r = passed-room _ _ _ _ _ _ v (c .before .before .before .before .before .before .before .before .before .before .before .before .pre .1) (c .before .before .before .before .before .before .before .before .loop .inv) (c .before .before .before .before .before .before .before .loop-test .taken) (omega (arith, c .before .before .before .before .before .if1 .left)) in
-    let m = walks-few _ _ _ _ _ _ v (c .before .before .before .before .before .before .before .before .before .before .before .before .pre .1) (c .before .before .before .before .before .before .before .before .loop .inv) (c .before .before .before .before .before .before .before .loop-test .taken) (omega (arith, c .before .before .before .before .before .if1 .left)) _ (c .before .before .before .halt .ensures) _ l in
-    let f = plan-facts (v .planned) in omega arith
-
 returns-2 : tie.Need-returns-2 Inv-loop μ-loop
 returns-2 c = let v = c .before .before .before .before .before .before .before .before .before .before .before .before .pre .0 in
     walks-hit _ _ _ _ _ _ v (c .before .before .before .before .before .before .before .before .before .before .before .before .pre .1) (c .before .before .before .before .before .before .before .before .loop .inv) (c .before .before .before .before .before .before .before .loop-test .taken) (omega (arith, c .before .before .before .before .before .if1 .left)) _ (c .before .before .before .halt .ensures) _ (c .before .index .given .1)
 
 enum-known-index-2 : tie.Need-enum-known-index-2 Inv-loop μ-loop
 enum-known-index-2 c = search needs
-
-mul-t28 : tie.Need-mul-t28 Inv-loop μ-loop
-mul-t28 c = let v = c .before .before .before .before .before .before .before .before .before .before .before .before .pre .0 in
-    let l = inside-vacant _ _ _ _ _ _ (c .before .before .before .halt .ensures) _ (c .before .index2 .given .1) in
-    let r = passed-room _ _ _ _ _ _ v (c .before .before .before .before .before .before .before .before .before .before .before .before .pre .1) (c .before .before .before .before .before .before .before .before .loop .inv) (c .before .before .before .before .before .before .before .loop-test .taken) (omega (arith, c .before .before .before .before .before .if1 .left)) in
-    let m = walks-few _ _ _ _ _ _ v (c .before .before .before .before .before .before .before .before .before .before .before .before .pre .1) (c .before .before .before .before .before .before .before .before .loop .inv) (c .before .before .before .before .before .before .before .loop-test .taken) (omega (arith, c .before .before .before .before .before .if1 .left)) _ (c .before .before .before .halt .ensures) _ l in
-    let f = plan-facts (v .planned) in omega arith
-
-add-t29 : tie.Need-add-t29 Inv-loop μ-loop
-add-t29 c = let v = c .before .before .before .before .before .before .before .before .before .before .before .before .pre .0 in
-    let l = inside-vacant _ _ _ _ _ _ (c .before .before .before .halt .ensures) _ (c .before .index2 .given .1) in
-    let r = passed-room _ _ _ _ _ _ v (c .before .before .before .before .before .before .before .before .before .before .before .before .pre .1) (c .before .before .before .before .before .before .before .before .loop .inv) (c .before .before .before .before .before .before .before .loop-test .taken) (omega (arith, c .before .before .before .before .before .if1 .left)) in
-    let m = walks-few _ _ _ _ _ _ v (c .before .before .before .before .before .before .before .before .before .before .before .before .pre .1) (c .before .before .before .before .before .before .before .before .loop .inv) (c .before .before .before .before .before .before .before .loop-test .taken) (omega (arith, c .before .before .before .before .before .if1 .left)) _ (c .before .before .before .halt .ensures) _ l in
-    let f = plan-facts (v .planned) in omega arith
-
-add-t30 : tie.Need-add-t30 Inv-loop μ-loop
-add-t30 c = let v = c .before .before .before .before .before .before .before .before .before .before .before .before .pre .0 in
-    let l = inside-vacant _ _ _ _ _ _ (c .before .before .before .halt .ensures) _ (c .before .index2 .given .1) in
-    let r = passed-room _ _ _ _ _ _ v (c .before .before .before .before .before .before .before .before .before .before .before .before .pre .1) (c .before .before .before .before .before .before .before .before .loop .inv) (c .before .before .before .before .before .before .before .loop-test .taken) (omega (arith, c .before .before .before .before .before .if1 .left)) in
-    let m = walks-few _ _ _ _ _ _ v (c .before .before .before .before .before .before .before .before .before .before .before .before .pre .1) (c .before .before .before .before .before .before .before .before .loop .inv) (c .before .before .before .before .before .before .before .loop-test .taken) (omega (arith, c .before .before .before .before .before .if1 .left)) _ (c .before .before .before .halt .ensures) _ l in
-    let f = plan-facts (v .planned) in omega arith
-
-add-t31 : tie.Need-add-t31 Inv-loop μ-loop
-add-t31 c = let v = c .before .before .before .before .before .before .before .before .before .before .before .before .pre .0 in
-    let l = inside-vacant _ _ _ _ _ _ (c .before .before .before .halt .ensures) _ (c .before .index2 .given .1) in
-    let r = passed-room _ _ _ _ _ _ v (c .before .before .before .before .before .before .before .before .before .before .before .before .pre .1) (c .before .before .before .before .before .before .before .before .loop .inv) (c .before .before .before .before .before .before .before .loop-test .taken) (omega (arith, c .before .before .before .before .before .if1 .left)) in
-    let m = walks-few _ _ _ _ _ _ v (c .before .before .before .before .before .before .before .before .before .before .before .before .pre .1) (c .before .before .before .before .before .before .before .before .loop .inv) (c .before .before .before .before .before .before .before .loop-test .taken) (omega (arith, c .before .before .before .before .before .if1 .left)) _ (c .before .before .before .halt .ensures) _ l in
-    let f = plan-facts (v .planned) in omega arith
 
 returns-3 : tie.Need-returns-3 Inv-loop μ-loop
 returns-3 c = let v = c .before .before .before .before .before .before .before .before .before .before .before .before .pre .0 in
@@ -141,9 +85,6 @@ loop-again : tie.Need-loop-again Inv-loop μ-loop
 loop-again c = passed-more _ _ _ _ _ _ (c .before .before .before .before .before .before .before .before .before .before .before .pre .0) (c .before .before .before .before .before .before .before .before .before .before .before .pre .1) (c .before .before .before .before .before .before .before .loop .inv) (c .before .before .before .before .before .before .loop-test .taken) (omega (arith, c .before .before .before .before .if1 .left)) _
     (halts-nowhere _ _ _ _ _ _ (c .before .before .halt .ensures) (c .enum-told .given .1)) (c .before .before .before .first-bucket2 .ensures)
 
-mul-t33 : tie.Need-mul-t33 Inv-loop μ-loop
-mul-t33 c = let m = levels-few (c .before .before .before .before .before .pre .0) in omega arith
-
 returns-4 : tie.Need-returns-4 Inv-loop μ-loop
 returns-4 c = walks-past _ _ _ _ _ _ (c .before .loop .inv) (omega (arith, c .loop-test .left))
 
@@ -164,16 +105,8 @@ walk-spec =
     add-from
     halt-requires
     enum-known-index
-    mul-t24
-    add-t25
-    add-t26
-    add-t27
     returns-2
     enum-known-index-2
-    mul-t28
-    add-t29
-    add-t30
-    add-t31
     returns-3
     enum-told
     mul-start
@@ -181,5 +114,4 @@ walk-spec =
     add-level
     loop-less
     loop-again
-    mul-t33
     returns-4)

@@ -1,91 +1,36 @@
--- `lent::scan::pass` meets its contract. The invariant: no slot before the i-th stops the search, and i is even as w is. Assumes nothing.
-use Prim.Native.Nat.{_-_, _%_, _≤_}
-use mathlib.Core.Path.{_≡_, refl, sym, _∙_}
+-- `lent::scan::pass` meets its contract. Assumes nothing.
 use native.Mathlib.Omega.{arith}
-use Rattle.funnel.specs.StopLaws.{Passing, passing-none, passing-vacant, passing-hit, passing-more, passing-end, passing-two}
-use Rattle.lent.specs.Lent.{wordsOf}
-use Rattle.lent.specs.ScanLaws.{stops-hit, stops-vacant, stops-nowhere}
+use borrow.Author.Needs.{needs}
+use Rattle.funnel.specs.StopLaws.{halts-hit, halts-vacant, halts-nowhere, inside-hit, inside-vacant}
 use Rattle.lent.proofs.scan.pass.Statement.{statement}
 use Rattle.lent.proofs.scan.pass.Tie as tie
 
-abbrev Inv-loop : tie.InvT-loop
-Inv-loop words flags identity from w i₀ i = (i ≤ w) × (i % 2 ≡ 0) × Passing (wordsOf words) flags identity from w i
+halt-requires : tie.Need-halt-requires
+halt-requires c κs = search needs
 
-abbrev μ-loop : tie.MeasureT-loop
-μ-loop words flags identity from w i₀ i = w - i
+enum-known-index : tie.Need-enum-known-index
+enum-known-index c = search needs
 
-loop-holds : tie.Need-loop-holds Inv-loop μ-loop
-loop-holds c = (omega arith, omega arith, passing-none _ _ _ _ _)
+add-t10 : tie.Need-add-t10
+add-t10 c = let l = inside-hit _ _ (c .before .before .before .halt .ensures .inside) _ (c .before .index .given .1) in omega arith
 
-add-slot : tie.Need-add-slot Inv-loop μ-loop
-add-slot c = omega arith
+enum-known-index-2 : tie.Need-enum-known-index-2
+enum-known-index-2 c = search needs
 
-shared-slice-read-if1 : tie.Need-shared-slice-read-if1 Inv-loop μ-loop
-shared-slice-read-if1 c = omega arith
+add-t11 : tie.Need-add-t11
+add-t11 c = let l = inside-vacant _ _ (c .before .before .before .halt .ensures .inside) _ (c .before .index2 .given .1) in omega arith
 
-returns : tie.Need-returns Inv-loop μ-loop
-returns c = stops-vacant _ _ _ _ _ _ _ (passing-vacant _ _ _ _ _ (c .before .before .before .loop .inv .2) (c .before .before .loop-test .taken) _ refl (c .if1 .taken)) refl
+enum-told : tie.Need-enum-told
+enum-told c = search needs
 
-word-at-requires : tie.Need-word-at-requires Inv-loop μ-loop
-word-at-requires c κs = omega arith
+returns : tie.Need-returns
+returns c = halts-hit _ _ _ _ _ _ (c .before .before .before .halt .ensures) _ (c .before .index .given .1)
 
-returns-2 : tie.Need-returns-2 Inv-loop μ-loop
-returns-2 c = stops-hit _ _ _ _ _ _ _ (passing-hit _ _ _ _ _ (c .before .before .before .before .before .loop .inv .2) (c .before .before .before .before .loop-test .taken) _ refl (c .before .before .if1 .left) (sym (c .before .word-at .ensures) ∙ c .if2 .taken)) refl
+returns-2 : tie.Need-returns-2
+returns-2 c = halts-vacant _ _ _ _ _ _ (c .before .before .before .halt .ensures) _ (c .before .index2 .given .1)
 
-add-next : tie.Need-add-next Inv-loop μ-loop
-add-next c = omega arith
-
-shared-slice-read-if3 : tie.Need-shared-slice-read-if3 Inv-loop μ-loop
-shared-slice-read-if3 c = let l = c .before .before .before .before .before .loop-test .taken in let v = c .before .before .before .before .before .before .loop .inv in omega arith
-
-returns-3 : tie.Need-returns-3 Inv-loop μ-loop
-returns-3 c = let l = c .before .before .before .before .before .before .loop-test .taken in
-    let v = c .before .before .before .before .before .before .before .loop .inv in
-    let p = passing-more _ _ _ _ _ (v .2) l _ refl (c .before .before .before .before .if1 .left) (λ e. c .before .before .if2 .left (c .before .before .before .word-at .ensures ∙ e)) in
-    stops-vacant _ _ _ _ _ _ _ (passing-vacant _ _ _ _ _ p (omega arith) _ (omega arith) (c .if3 .taken)) (omega arith)
-
-word-at-requires-2 : tie.Need-word-at-requires-2 Inv-loop μ-loop
-word-at-requires-2 c κs = let l = c .before .before .before .before .before .before .loop-test .taken in let v = c .before .before .before .before .before .before .before .loop .inv in omega arith
-
-returns-4 : tie.Need-returns-4 Inv-loop μ-loop
-returns-4 c = let l = c .before .before .before .before .before .before .before .before .loop-test .taken in
-    let v = c .before .before .before .before .before .before .before .before .before .loop .inv in
-    let p = passing-more _ _ _ _ _ (v .2) l _ refl (c .before .before .before .before .before .before .if1 .left) (λ e. c .before .before .before .before .if2 .left (c .before .before .before .before .before .word-at .ensures ∙ e)) in
-    stops-hit _ _ _ _ _ _ _ (passing-hit _ _ _ _ _ p (omega arith) _ (omega arith) (c .before .before .if3 .left) (sym (c .before .word-at2 .ensures) ∙ c .if4 .taken)) (omega arith)
-
-add-i : tie.Need-add-i Inv-loop μ-loop
-add-i c = omega arith
-
-loop-less : tie.Need-loop-less Inv-loop μ-loop
-loop-less c = omega arith
-
-loop-again : tie.Need-loop-again Inv-loop μ-loop
-loop-again c = let l = c .before .before .before .before .before .before .before .before .loop-test .taken in
-    let v = c .before .before .before .before .before .before .before .before .before .loop .inv in
-    let p = passing-more _ _ _ _ _ (v .2) l _ refl (c .before .before .before .before .before .before .if1 .left) (λ e. c .before .before .before .before .if2 .left (c .before .before .before .before .before .word-at .ensures ∙ e)) in
-    (omega arith, omega arith, passing-two _ _ _ _ _ _ (passing-more _ _ _ _ _ p (omega arith) _ (omega arith) (c .before .before .if3 .left) (λ e. c .if4 .left (c .before .word-at2 .ensures ∙ e))))
-
-returns-5 : tie.Need-returns-5 Inv-loop μ-loop
-returns-5 c = let v = c .before .loop .inv in stops-nowhere _ _ _ _ _ (passing-end _ _ _ _ _ (v .2) (omega arith))
+returns-3 : tie.Need-returns-3
+returns-3 c = halts-nowhere _ _ _ _ _ _ (c .before .before .halt .ensures) (c .enum-told .given .1)
 
 pub pass-spec : {M : Type 1} → statement M
-pass-spec =
-    tie.close
-    (tie.spec
-    Inv-loop
-    μ-loop
-    loop-holds
-    add-slot
-    shared-slice-read-if1
-    returns
-    word-at-requires
-    returns-2
-    add-next
-    shared-slice-read-if3
-    returns-3
-    word-at-requires-2
-    returns-4
-    add-i
-    loop-less
-    loop-again
-    returns-5)
+pass-spec = tie.close (tie.spec halt-requires enum-known-index add-t10 enum-known-index-2 add-t11 enum-told returns returns-2 returns-3)

@@ -11,6 +11,7 @@ use Rattle.funnel.specs.SearchLaws.{resume}
 use Rattle.funnel.specs.StageLaws.{drew, drew-below, LevelsLeft, levels-none, levels-refused, levels-found, levels-end, bucket-full}
 use Rattle.funnel.specs.Valid.{DrawnAhead}
 use Rattle.lent.specs.Lent.{wordsOf}
+use Rattle.lent.specs.ValidLaws.{whole-flags}
 use Rattle.funnel.proofs.Stays.{stays}
 use Rattle.lent.proofs.walk.search_levels.Statement.{statement}
 use Rattle.lent.proofs.walk.search_levels.Tie as tie
@@ -65,7 +66,7 @@ scan-requires c κs = let d = drew-below _ _ _ _ _ (level-room (c .before .befor
     let v = c .before .before .before .before .before .before .before .before .before .pre .0 in
     let s = c .before .before .before .before .before .loop .inv in
     let t = c .before .before .before .before .loop-test .taken in
-    omega arith
+    (omega arith, whole-flags v, omega arith, omega arith)
 
 enum-known-found : tie.Need-enum-known-found Inv-loop μ-loop
 enum-known-found c = search needs

@@ -24,8 +24,8 @@ returns-3 c = sym (ready-exhausted _ _ _ _ _ _ _ (c .if3 .taken))
 word-at-requires : tie.Need-word-at-requires
 word-at-requires c κs = search needs
 
-pass-levels-requires : tie.Need-pass-levels-requires
-pass-levels-requires c κs = search needs
+pass-placed-requires : tie.Need-pass-placed-requires
+pass-placed-requires c κs = search needs
 
 enum-known-found : tie.Need-enum-known-found
 enum-known-found c = search needs
@@ -40,10 +40,10 @@ ends-at-requires : tie.Need-ends-at-requires
 ends-at-requires c κs = search needs
 
 returns-4 : tie.Need-returns-4
-returns-4 c = stopped _ _ _ _ _ _ _ _ (c .before .before .before .before .word-at .ensures) (c .before .before .before .before .before .before .before .before .before .if1 .left) (c .before .before .before .before .before .if3 .left) (c .before .before .before .before .before .before .before .if2 .left) _ _ (c .before .before .before .pass-levels .ensures) (c .before .found .given .1)
+returns-4 c = stopped _ _ _ _ _ _ _ _ (c .before .before .before .before .word-at .ensures) (c .before .before .before .before .before .before .before .before .before .if1 .left) (c .before .before .before .before .before .if3 .left) (c .before .before .before .before .before .before .before .if2 .left) _ _ (c .before .before .before .pass-placed .ensures) (c .before .found .given .1)
 
 returns-5 : tie.Need-returns-5
-returns-5 c = there _ _ _ _ _ _ _ _ (c .before .before .before .word-at .ensures) (c .before .before .before .before .before .before .before .before .if1 .left) (c .before .before .before .before .if3 .left) (c .before .before .before .before .before .before .if2 .left) _ _ (c .before .before .pass-levels .ensures) (c .enum-told .given .1)
+returns-5 c = there _ _ _ _ _ _ _ _ (c .before .before .before .word-at .ensures) (c .before .before .before .before .before .before .before .before .if1 .left) (c .before .before .before .before .if3 .left) (c .before .before .before .before .before .before .if2 .left) _ _ (c .before .before .pass-placed .ensures) (c .enum-told .given .1)
 
 returns-6 : tie.Need-returns-6
 returns-6 c = ends _ _ _ _ _ _ _ _ (c .before .before .before .before .word-at .ensures) (c .before .before .before .before .before .before .before .before .before .if1 .left) (c .before .before .before .before .before .if3 .left) (c .before .before .before .before .before .before .before .if2 .left) _ (c .ends-at .ensures)
@@ -58,7 +58,7 @@ is-ready-spec =
     returns-2
     returns-3
     word-at-requires
-    pass-levels-requires
+    pass-placed-requires
     enum-known-found
     enum-told
     enum-told-2
