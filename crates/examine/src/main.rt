@@ -13,27 +13,27 @@
 // A program of this language has no exit status of its own; `bin/examine` gives one, from that line.
 //
 //     main.rt      arguments and the file
-//     buffers.rt   the large arrays
 //     header.rt    n, e and seed
 //     table.rt     from the bytes of an image to a loaded table
 //     summary.rt   what the table is
-//     verdict.rt   what the check says of it
+//     verdict.rt   what the check says of it, as numbers
+//     telling.rt   the same in words
 //     say.rt       refusals, text and shares in words
 //
 // It uses the public calls alone: `load_image`, `check`, `search`.
-mod buffers;
 mod header;
 mod say;
 mod summary;
 mod table;
+mod telling;
 mod verdict;
 
-use buffers::MOST_BYTES;
-use buffers::image_buffer;
 use funnel_calls::calls::MOST_WORDS;
 use say::put_text;
 use table::examine;
 use table::refuse_length;
+use text::buffers::MOST_BYTES;
+use text::buffers::image_buffer;
 use text::field::OneWord;
 use text::field::decimal;
 use text::out::flush;

@@ -1,62 +1,65 @@
 // What the lines are made of: refusals by name and number, text with escapes, identities, shares.
-use crate::buffers::MOST_SLOTS;
 use refusal::Gate;
-use refusal::Name;
+use text::buffers::MOST_SLOTS;
 use text::out::put;
 use text::out::put_byte;
-use text::out::put_decimal;
+use text::out::put_form;
 use text::out::put_hex;
 
-// A refusal's name with its number.
-pub fn put_name(word: &[u8], name: Name, out: &mut [u8], at: usize) -> usize {
-    let mut to = put(out, at, word);
-    to = put(out, to, b" (");
-    to = put_decimal(out, to, refusal::number(name));
-    put_byte(out, to, b')')
-}
-
-// A verdict: the refusal's name, its number and what it means.
-pub fn put_refused(word: &[u8], name: Name, why: &[u8], out: &mut [u8], at: usize) -> usize {
-    let mut to = put(out, at, b"refused     ");
-    to = put_name(word, name, out, to);
-    put(out, to, why)
-}
-
-// A refusal of the gate.
+// A refusal of the gate, with its name, its number and what it means.
 pub fn put_gate(gate: Gate, out: &mut [u8], at: usize) -> usize {
-    let name = refusal::gate_name(gate);
-    match gate {
-        Gate::N => put_refused(b"N", name, b": n is below 2\n", out, at),
-        Gate::ZeroExp => put_refused(b"ZEROEXP", name, b": e is 0\n", out, at),
-        Gate::Size => put_refused(b"SIZE", name, b": n is above 4294967296\n", out, at),
-        Gate::Exponent => {
-            put_refused(
-                b"EXPONENT",
-                name,
-                b": e is below 3, so it is no funnel table's\n",
+    put_numbered(refusal::number(refusal::gate_name(gate)), out, at)
+}
+
+// The same by its number: 1 to 3, which every table has.
+pub fn put_numbered(number: u64, out: &mut [u8], at: usize) -> usize {
+    let row = [number, 0, 0, 0];
+    match number {
+        1 => put_form(out, at, b"refused     N (#): n is below 2\n", row),
+        2 => put_form(out, at, b"refused     ZEROEXP (#): e is 0\n", row),
+        3 => put_form(
+            out,
+            at,
+            b"refused     SIZE (#): n is above 4294967296\n",
+            row,
+        ),
+        _ => put_later(number, row, out, at),
+    }
+}
+
+// 4 to 7.
+fn put_later(number: u64, row: [u64; 4], out: &mut [u8], at: usize) -> usize {
+    match number {
+        4 => {
+            put_form(
                 out,
                 at,
+                b"refused     EXPONENT (#): e is below 3, so it is no funnel table's\n",
+                row,
             )
         }
-        Gate::Layout => {
-            put_refused(
-                b"LAYOUT",
-                name,
-                b": no funnel table has this n and e\n",
+        5 => {
+            put_form(
                 out,
                 at,
+                b"refused     LAYOUT (#): no funnel table has this n and e\n",
+                row,
             )
         }
-        Gate::Limits => {
-            put_refused(
-                b"LIMITS",
-                name,
-                b": the word cap is not 1 to 256\n",
+        6 => {
+            put_form(
                 out,
                 at,
+                b"refused     LIMITS (#): the word cap is not 1 to 256\n",
+                row,
             )
         }
-        Gate::State => { put_refused(b"STATE", name, b": the count is above n\n", out, at) }
+        _ => put_form(
+            out,
+            at,
+            b"refused     STATE (#): the count is above n\n",
+            row,
+        ),
     }
 }
 
@@ -72,19 +75,19 @@ pub fn put_text(bytes: &[u8], out: &mut [u8], at: usize) -> usize {
 }
 
 fn put_text_byte(b: u8, out: &mut [u8], at: usize) -> usize {
-    if b == b'"' {
-        return put(out, at, b"\\\"");
-    }
-    if b == b'\\' {
-        return put(out, at, b"\\\\");
-    }
-    if b < 32 {
+    if b < 32 || 126 < b {
         return put_escape(b, out, at);
     }
-    if 126 < b {
-        return put_escape(b, out, at);
+    let to = put_backslash(b, out, at);
+    put_byte(out, to, b)
+}
+
+// What stands before a quote and before a backslash.
+fn put_backslash(b: u8, out: &mut [u8], at: usize) -> usize {
+    if b == b'"' || b == b'\\' {
+        return put_byte(out, at, b'\\');
     }
-    put_byte(out, at, b)
+    at
 }
 
 fn put_escape(b: u8, out: &mut [u8], at: usize) -> usize {
@@ -99,22 +102,17 @@ pub fn put_hex_byte(b: u8, out: &mut [u8], at: usize) -> usize {
     put(out, at, &text[..k])
 }
 
-// An identity, in both ways that people write one.
+// An identity, in both ways that people write one, to the end of its line.
 pub fn put_identity(identity: u64, out: &mut [u8], at: usize) -> usize {
-    let mut to = put_decimal(out, at, identity);
-    to = put(out, to, b" (0x");
+    let mut to = put_form(out, at, b"# (0x", [identity, 0, 0, 0]);
     to = put_hex(out, to, identity);
-    put_byte(out, to, b')')
+    put(out, to, b")\n")
 }
 
-// A part of a whole as a percentage, rounded down.
-pub fn put_percent(part: u64, whole: u64, out: &mut [u8], at: usize) -> usize {
+// A form with the share of a part of a whole as a percentage, `#.## %`, rounded down.
+pub fn put_share(form: &[u8], part: u64, whole: u64, out: &mut [u8], at: usize) -> usize {
     let share = share_of(part, whole);
-    let mut to = put_decimal(out, at, share / 100);
-    to = put_byte(out, to, b'.');
-    to = put_decimal(out, to, share / 10 % 10);
-    to = put_decimal(out, to, share % 10);
-    put(out, to, b" %")
+    put_form(out, at, form, [share / 100, share / 10 % 10, share % 10, 0])
 }
 
 // The share in hundredths of a percent; a part that no table here has counts as all.

@@ -1,62 +1,67 @@
 // What a table is: its numbers, its label, its members and where they are.
 ghost use Prim.Native.Nat.{_≤_};
 use crate::header::Given;
-use crate::say::put_percent;
+use crate::say::put_share;
 use crate::say::put_text;
 use funnel::table::FunnelTable;
 use text::out::put;
-use text::out::put_byte;
-use text::out::put_decimal;
+use text::out::put_form;
 
 // The numbers that the image starts with.
 pub fn put_given(given: Given, out: &mut [u8], at: usize) -> usize {
-    let mut to = put(out, at, b"n           ");
-    to = put_decimal(out, to, given.n);
-    to = put(out, to, b" slots\ne           ");
-    to = put_decimal(out, to, given.e as u64);
-    to = put(out, to, b"\nseed        ");
-    to = put_decimal(out, to, given.seed);
-    put_byte(out, to, b'\n')
+    put_form(
+        out,
+        at,
+        b"n           # slots\ne           #\nseed        #\n",
+        [given.n, given.e as u64, given.seed, 0],
+    )
 }
 
 // The label, which is at a place of the image; of length 0 where there is none.
 pub fn put_label(image: &[u8], label_at: u64, label_len: u64, out: &mut [u8], at: usize) -> usize {
-    let to = put(out, at, b"label       ");
-    if label_len == 0 {
-        return put(out, to, b"none\n");
-    }
     let from = label_at as usize;
+    let end = label_end(image, from, label_len as usize);
+    if end <= from {
+        return put(out, at, b"label       none\n");
+    }
+    if image.len() < end {
+        return put(out, at, b"label       none\n");
+    }
+    put_quoted(&image[from..end], out, at)
+}
+
+// Where a label ends, 0 where the image does.
+fn label_end(image: &[u8], from: usize, length: usize) -> usize {
     if image.len() < from {
-        return put(out, to, b"none\n");
+        return 0;
     }
-    let length = label_len as usize;
     if image.len() - from < length {
-        return put(out, to, b"none\n");
+        return 0;
     }
-    let end = from + length;
-    put_quoted(&image[from..end], out, to)
+    from + length
 }
 
 fn put_quoted(label: &[u8], out: &mut [u8], at: usize) -> usize {
-    let mut to = put_byte(out, at, b'"');
+    let mut to = put(out, at, b"label       \"");
     to = put_text(label, out, to);
     put(out, to, b"\"\n")
 }
 
 // How many members there are, how full that makes the table, and in which parts they are.
 pub fn put_members(table: FunnelTable, flags: &[u8], out: &mut [u8], at: usize) -> usize {
-    let mut to = put_count(b"members     ", table.count, out, at);
-    to = put_count(b", the maximum is ", table.plan.maximum, out, to);
-    to = put_fill(table, out, to);
+    let to = put_fill(table.count, table.n, table.plan.maximum, out, at);
     put_parts(table, flags, out, to)
 }
 
-fn put_fill(table: FunnelTable, out: &mut [u8], at: usize) -> usize {
-    let mut to = put(out, at, b"\nfill        ");
-    to = put_percent(table.count, table.n, out, to);
-    to = put(out, to, b" of n, ");
-    to = put_percent(table.count, table.plan.maximum, out, to);
-    put(out, to, b" of the maximum\n")
+fn put_fill(count: u64, n: u64, maximum: u64, out: &mut [u8], at: usize) -> usize {
+    let mut to = put_form(
+        out,
+        at,
+        b"members     #, the maximum is #\n",
+        [count, maximum, 0, 0],
+    );
+    to = put_share(b"fill        #.## % of n, ", count, n, out, to);
+    put_share(b"#.## % of the maximum\n", count, maximum, out, to)
 }
 
 // Members by the part that they are in.
@@ -66,15 +71,12 @@ fn put_parts(table: FunnelTable, flags: &[u8], out: &mut [u8], at: usize) -> usi
     let ordinary_count = occupied(flags, 0, primary);
     let primary_count = occupied(flags, primary, fallback);
     let fallback_count = occupied(flags, fallback, table.n);
-    let mut to = put_count(b"where       ", ordinary_count, out, at);
-    to = put_count(b" in ordinary levels, ", primary_count, out, to);
-    to = put_count(b" primary, ", fallback_count, out, to);
-    put(out, to, b" fallback\n")
-}
-
-fn put_count(before: &[u8], count: u64, out: &mut [u8], at: usize) -> usize {
-    let to = put(out, at, before);
-    put_decimal(out, to, count)
+    put_form(
+        out,
+        at,
+        b"where       # in ordinary levels, # primary, # fallback\n",
+        [ordinary_count, primary_count, fallback_count, 0],
+    )
 }
 
 // How many slots from one on and before another are occupied.

@@ -1,16 +1,14 @@
 // From the bytes of an image to a loaded table, or to what keeps it from being one.
-use crate::buffers::MOST_SLOTS;
-use crate::buffers::word_buffer;
 use crate::header::Given;
 use crate::header::Header;
 use crate::header::read_header;
 use crate::say::put_gate;
 use crate::say::put_hex_byte;
-use crate::say::put_refused;
 use crate::summary::put_given;
 use crate::summary::put_label;
 use crate::summary::put_members;
-use crate::verdict::put_verdict;
+use crate::telling::put_verdict;
+use crate::verdict::judge;
 use funnel::table::FunnelTable;
 use funnel::table::OpenAnswer;
 use funnel_calls::calls::open;
@@ -19,9 +17,11 @@ use geometry::funnel::funnel_gate;
 use image_calls::calls::Loaded;
 use image_calls::calls::load_image;
 use refusal::Name;
+use text::buffers::MOST_SLOTS;
+use text::buffers::word_buffer;
 use text::out::put;
 use text::out::put_byte;
-use text::out::put_decimal;
+use text::out::put_form;
 
 // Whether an image is well formed, or where it is not.
 enum Form {
@@ -45,23 +45,20 @@ fn form_of(image: &[u8]) -> Form {
     form_in(image, &mut words, &mut flags)
 }
 
+// What else than its form the loader has against the image is asked again with its own table.
 fn form_in(image: &[u8], words: &mut [u64], flags: &mut [u8]) -> Form {
     let mut counts = [0u64; 118];
-    match open(144, 3, 0, 1, &mut counts, words, flags) {
-        OpenAnswer::Gate(_) => Form::Right,
-        OpenAnswer::Table(table) => form_for(table, &counts, words, flags, image),
-    }
+    let smallest = Given {
+        n: 144,
+        e: 3,
+        seed: 0,
+        word_cap: 1,
+    };
+    form_by(loaded(image, smallest, &mut counts, words, flags))
 }
 
-// What else than its form the loader has against the image is asked again with its own table.
-fn form_for(
-    table: FunnelTable,
-    counts: &[u64; 118],
-    words: &mut [u64],
-    flags: &mut [u8],
-    image: &[u8],
-) -> Form {
-    match load_image(table, counts, words, flags, image) {
+fn form_by(answer: Loaded) -> Form {
+    match answer {
         Loaded::Image { place } => Form::Wrong { place },
         Loaded::Gate(_) => Form::Right,
         Loaded::Foreign => Form::Right,
@@ -75,33 +72,38 @@ fn form_for(
 
 // The place, and what stands there.
 fn put_malformed(image: &[u8], place: u64, out: &mut [u8], at: usize) -> usize {
-    let mut to = put_refused(b"IMAGE", Name::Image, b": malformed at byte ", out, at);
-    to = put_decimal(out, to, place);
-    to = put_stands(image, place, out, to);
-    put_byte(out, to, b'\n')
+    let to = put_form(
+        out,
+        at,
+        b"refused     IMAGE (#): malformed at byte #",
+        [refusal::number(Name::Image), place, 0, 0],
+    );
+    put_stands(image, place as usize, out, to)
 }
 
-fn put_stands(image: &[u8], place: u64, out: &mut [u8], at: usize) -> usize {
-    let i = place as usize;
-    if image.len() <= i {
-        return put(out, at, b", the end of the file");
+fn put_stands(image: &[u8], place: usize, out: &mut [u8], at: usize) -> usize {
+    if image.len() <= place {
+        return put(out, at, b", the end of the file\n");
     }
-    let to = put(out, at, b", where the byte is 0x");
-    put_hex_byte(image[i], out, to)
+    let mut to = put(out, at, b", where the byte is 0x");
+    to = put_hex_byte(image[place], out, to);
+    put_byte(out, to, b'\n')
 }
 
 // A file that is longer than any image that this program takes.
 pub fn refuse_length(image: &[u8], out: &mut [u8]) -> usize {
     match read_header(image, 1) {
         Header::Missing => put_long(out, 0),
-        Header::Read(given) => {
-            let at = put_given(given, out, 0);
-            if MOST_SLOTS < given.n {
-                return put_larger(given.n, out, at);
-            }
-            put_long(out, at)
-        }
+        Header::Read(given) => refuse_given(given, out),
     }
+}
+
+fn refuse_given(given: Given, out: &mut [u8]) -> usize {
+    let at = put_given(given, out, 0);
+    if MOST_SLOTS < given.n {
+        return put_larger(given.n, out, at);
+    }
+    put_long(out, at)
 }
 
 fn put_long(out: &mut [u8], at: usize) -> usize {
@@ -113,12 +115,11 @@ fn put_long(out: &mut [u8], at: usize) -> usize {
 }
 
 fn put_larger(n: u64, out: &mut [u8], at: usize) -> usize {
-    let mut to = put(out, at, b"refused     a table of ");
-    to = put_decimal(out, to, n);
-    put(
+    put_form(
         out,
-        to,
-        b" slots is larger than the 65536 that this program takes\n",
+        at,
+        b"refused     a table of # slots is larger than the 65536 that this program takes\n",
+        [n, 0, 0, 0],
     )
 }
 
@@ -148,28 +149,15 @@ fn examine_size(image: &[u8], given: Given, out: &mut [u8], at: usize) -> usize 
 fn examine_table(image: &[u8], given: Given, out: &mut [u8], at: usize) -> usize {
     let mut words = word_buffer();
     let mut flags = io::large_buffer();
-    let mut marks = io::large_buffer();
-    let mut order = word_buffer();
-    cut_table(
-        image,
-        given,
-        &mut words,
-        &mut flags,
-        &mut marks,
-        &mut order,
-        out,
-        at,
-    )
+    cut_table(image, given, &mut words, &mut flags, out, at)
 }
 
-// The table and its check in the first n entries of large buffers.
+// The table in the first n slots of large buffers.
 fn cut_table(
     image: &[u8],
     given: Given,
     words: &mut [u64],
     flags: &mut [u8],
-    marks: &mut [u8],
-    order: &mut [u64],
     out: &mut [u8],
     at: usize,
 ) -> usize {
@@ -180,45 +168,7 @@ fn cut_table(
     if flags.len() < n {
         return at;
     }
-    cut_check(
-        image,
-        given,
-        &mut words[..n],
-        &mut flags[..n],
-        marks,
-        order,
-        out,
-        at,
-    )
-}
-
-fn cut_check(
-    image: &[u8],
-    given: Given,
-    words: &mut [u64],
-    flags: &mut [u8],
-    marks: &mut [u8],
-    order: &mut [u64],
-    out: &mut [u8],
-    at: usize,
-) -> usize {
-    let n = given.n as usize;
-    if marks.len() < n {
-        return at;
-    }
-    if order.len() < n {
-        return at;
-    }
-    open_table(
-        image,
-        given,
-        words,
-        flags,
-        &mut marks[..n],
-        &mut order[..n],
-        out,
-        at,
-    )
+    open_table(image, given, &mut words[..n], &mut flags[..n], out, at)
 }
 
 fn open_table(
@@ -226,57 +176,64 @@ fn open_table(
     given: Given,
     words: &mut [u64],
     flags: &mut [u8],
-    marks: &mut [u8],
-    order: &mut [u64],
     out: &mut [u8],
     at: usize,
 ) -> usize {
     let mut counts = [0u64; 118];
-    match open(
-        given.n,
-        given.e,
-        given.seed,
-        given.word_cap,
-        &mut counts,
-        words,
-        flags,
-    ) {
-        OpenAnswer::Gate(gate) => put_gate(gate, out, at),
-        OpenAnswer::Table(table) => {
-            load_table(image, table, &counts, words, flags, marks, order, out, at)
-        }
-    }
-}
-
-fn load_table(
-    image: &[u8],
-    fresh: FunnelTable,
-    counts: &[u64; 118],
-    words: &mut [u64],
-    flags: &mut [u8],
-    marks: &mut [u8],
-    order: &mut [u64],
-    out: &mut [u8],
-    at: usize,
-) -> usize {
-    match load_image(fresh, counts, words, flags, image) {
+    match loaded(image, given, &mut counts, words, flags) {
         Loaded::Gate(gate) => put_gate(gate, out, at),
         Loaded::Image { place } => put_malformed(image, place, out, at),
-        Loaded::Foreign => put_refused(
-            b"FOREIGN",
-            Name::Foreign,
-            b": the image is another table's than its own n, e and seed say\n",
-            out,
-            at,
-        ),
+        Loaded::Foreign => put_foreign(out, at),
         Loaded::Done {
             table,
             label_at,
             label_len,
         } => {
-            let mut to = put_label(image, label_at, label_len, out, at);
-            to = put_members(table, flags, out, to);
-            put_verdict(table, counts, words, flags, marks, order, out, to)
+            let to = put_label(image, label_at, label_len, out, at);
+            examine_loaded(table, &counts, words, flags, out, to)
         }
     }
+}
+
+fn loaded(
+    image: &[u8],
+    given: Given,
+    counts: &mut [u64; 118],
+    words: &mut [u64],
+    flags: &mut [u8],
+) -> Loaded {
+    match open(
+        given.n,
+        given.e,
+        given.seed,
+        given.word_cap,
+        counts,
+        words,
+        flags,
+    ) {
+        OpenAnswer::Gate(gate) => Loaded::Gate(gate),
+        OpenAnswer::Table(table) => load_image(table, counts, words, flags, image),
+    }
+}
+
+fn put_foreign(out: &mut [u8], at: usize) -> usize {
+    put_form(
+        out,
+        at,
+        b"refused     FOREIGN (#): the image is another table's than its own n, e and seed say\n",
+        [refusal::number(Name::Foreign), 0, 0, 0],
+    )
+}
+
+fn examine_loaded(
+    table: FunnelTable,
+    counts: &[u64; 118],
+    words: &[u64],
+    flags: &[u8],
+    out: &mut [u8],
+    at: usize,
+) -> usize {
+    let to = put_members(table, flags, out, at);
+    let found = judge(table, counts, words, flags);
+    put_verdict(found, table.count, table.plan.maximum, out, to)
 }

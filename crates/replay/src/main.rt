@@ -4,7 +4,14 @@
 // A line that is no command prints `?`. A line longer than 524,288 bytes, or a table of more than 65,536 slots, is more
 // than this program holds, and prints `L`.
 
-use script_images::command;
+use script::word::Word;
+use script::word::key_of;
+use script::word::word_of;
+use script_elastic::held;
+use script_numbers::layouts;
+use script_numbers::probes;
+use text::field::field_after;
+use text::field::field_end;
 use text::line::Gathered;
 use text::line::gather;
 use text::out::flush;
@@ -85,4 +92,19 @@ fn answer(line: &[u8], length: usize, out: &mut [u8], at: usize) -> usize {
     }
     let to = command(&line[..length], out, at);
     put_byte(out, to, b'\n')
+}
+
+// The answer to a command: its first field names it, the others are its arguments.
+fn command(line: &[u8], out: &mut [u8], at: usize) -> usize {
+    let end = field_end(line, 0);
+    let args = field_after(line, end);
+    let key = key_of(line, end);
+    match word_of(key) {
+        Word::Number => probes::command(key, line, args, out, at),
+        Word::Layout { elastic } => layouts::command(elastic, line, args, out, at),
+        Word::Elastic { bulk } => held::command(bulk, line, args, out, at),
+        Word::Funnel { letter, bulk } => {
+            script_images::held::command(letter, bulk, line, args, out, at)
+        }
+    }
 }

@@ -1,9 +1,8 @@
 // What is common to runs: the digest of a table, the identities of a bulk run, and how often each refusal came.
-ghost use mathlib.Core.Path.{_≡_};
-ghost use lib.ListN.{length};
+use crate::print::Said;
 use probe::mix::mix64;
 use text::out::put_byte;
-use text::out::put_decimal;
+use text::out::put_form;
 use text::out::put_hex;
 use words::product::multiply;
 
@@ -14,13 +13,6 @@ const PRIME: u64 = 0x100000001b3;
 
 // The increment of splitmix64.
 const GOLDEN: u64 = 0x9E3779B97F4A7C15;
-
-// 65,536 zeros, the words of a table. The `ensures` gives the length, which lending the array as a slice needs.
-pub fn word_buffer() -> [u64; 65536]
-    ensures { λ r. ⌜ 65536 ≡ length r ⌝ }
-{
-    [0; 65536]
-}
 
 fn digest_byte(hash: u64, byte: u64) -> u64 {
     multiply(hash ^ byte % 256, PRIME)
@@ -73,8 +65,13 @@ pub fn bulk_identity(start: u64, k: u64) -> u64 {
     mix64(std::num::wrapping_add_u64(start, multiply(k, GOLDEN)))
 }
 
-// One refusal more of a number.
-pub fn count_refusal(times: &mut [u64; 32], number: u64) {
+// One refusal more of its number, where an answer is one.
+pub fn count_refusal(said: Said, times: &mut [u64; 32]) {
+    let row = said.row;
+    let number = row[0];
+    if said.letter != b'R' {
+        return;
+    }
     if number < 32 {
         let i = number as usize;
         times[i] = std::num::wrapping_add_u64(times[i], 1);
@@ -108,14 +105,7 @@ fn put_time(before: u64, number: u64, many: u64, out: &mut [u8], at: usize) -> u
         return at;
     }
     if before == 0 {
-        return put_pair(number, many, out, at);
+        return put_form(out, at, b"#:#", [number, many, 0, 0]);
     }
-    let to = put_byte(out, at, b',');
-    put_pair(number, many, out, to)
-}
-
-fn put_pair(number: u64, many: u64, out: &mut [u8], at: usize) -> usize {
-    let mut to = put_decimal(out, at, number);
-    to = put_byte(out, to, b':');
-    put_decimal(out, to, many)
+    put_form(out, at, b",#:#", [number, many, 0, 0])
 }

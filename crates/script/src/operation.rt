@@ -4,14 +4,15 @@ use text::field::field_after;
 use text::field::field_end;
 use text::field::number;
 
-pub enum Operation {
-    Insert(u64),
-    Ask(u64),
-    Occupy { slot: u64, identity: u64 },
-    Level { level: u64, count: u64 },
-    Count(u64),
-    Unknown,
+// An operation: its letter, and the one or two numbers behind it.
+pub struct Operation {
+    pub letter: u8,
+    pub first: u64,
+    pub second: u64,
 }
+
+// The letter of what is none.
+const NONE: u8 = 0;
 
 // Two numbers with a byte between them, or none.
 pub enum Split {
@@ -52,49 +53,43 @@ pub fn split_pair(line: &[u8], from: usize, to: usize) -> Split {
 // The operation in a field.
 pub fn parse(line: &[u8], from: usize, to: usize) -> Operation {
     if to <= from {
-        return Operation::Unknown;
+        return lettered(NONE, 0, 0);
     }
     if line.len() <= from {
-        return Operation::Unknown;
+        return lettered(NONE, 0, 0);
     }
     let letter = line[from];
-    if letter == b'o' {
-        return match split_pair(line, from + 1, to) {
-            Split::Unknown => Operation::Unknown,
-            Split::Into { left, right } => Operation::Occupy {
-                slot: left,
-                identity: right,
-            },
-        };
+    if letter == b'o' || letter == b'c' {
+        return with_pair(letter, split_pair(line, from + 1, to));
     }
-    if letter == b'c' {
-        return match split_pair(line, from + 1, to) {
-            Split::Unknown => Operation::Unknown,
-            Split::Into { left, right } => Operation::Level {
-                level: left,
-                count: right,
-            },
-        };
-    }
-    one_number(letter, number(line, from + 1, to))
+    with_number(letter, number(line, from + 1, to))
 }
 
-fn one_number(letter: u8, value: OneWord) -> Operation {
-    match value {
-        OneWord::Bad => Operation::Unknown,
-        OneWord::Value(x) => {
-            if letter == b'i' {
-                return Operation::Insert(x);
-            }
-            if letter == b'l' {
-                return Operation::Count(x);
-            }
-            if letter == b'q' || letter == b's' {
-                return Operation::Ask(x);
-            }
-            Operation::Unknown
-        }
+fn lettered(letter: u8, first: u64, second: u64) -> Operation {
+    Operation {
+        letter,
+        first,
+        second,
     }
+}
+
+fn with_pair(letter: u8, pair: Split) -> Operation {
+    match pair {
+        Split::Unknown => lettered(NONE, 0, 0),
+        Split::Into { left, right } => lettered(letter, left, right),
+    }
+}
+
+fn with_number(letter: u8, value: OneWord) -> Operation {
+    match value {
+        OneWord::Bad => lettered(NONE, 0, 0),
+        OneWord::Value(x) => lettered(letter, x, 0),
+    }
+}
+
+// An insertion.
+pub fn insertion(identity: u64) -> Operation {
+    lettered(b'i', identity, 0)
 }
 
 // Whether every field from one on is an operation of a table of n slots, whose question begins with `question`.
@@ -107,7 +102,7 @@ pub fn are_operations(line: &[u8], from: usize, n: u64, question: u8) -> bool {
             return true;
         }
         let end = field_end(line, next);
-        if !is_operation(line, next, end, n, question) {
+        if !is_operation(parse(line, next, end), n, question) {
             return false;
         }
         next = field_after(line, end);
@@ -116,17 +111,34 @@ pub fn are_operations(line: &[u8], from: usize, n: u64, question: u8) -> bool {
     true
 }
 
-fn is_operation(line: &[u8], from: usize, to: usize, n: u64, question: u8) -> bool {
-    if line.len() <= from {
-        return false;
+fn is_operation(op: Operation, n: u64, question: u8) -> bool {
+    if op.letter == b'o' {
+        return op.first < n;
     }
-    let letter = line[from];
-    match parse(line, from, to) {
-        Operation::Unknown => false,
-        Operation::Insert(_) => true,
-        Operation::Count(_) => true,
-        Operation::Ask(_) => letter == question,
-        Operation::Occupy { slot, identity: _ } => slot < n,
-        Operation::Level { level, count: _ } => question == b'q' && level < 32,
+    if op.letter == b'c' {
+        return question == b'q' && op.first < 32;
+    }
+    if op.letter == question {
+        return true;
+    }
+    op.letter == b'i' || op.letter == b'l'
+}
+
+// The table's count after an operation that asks nothing: oSLOT=ID puts an identity into a slot, whatever the counts say,
+// and lCOUNT sets the count.
+pub fn edit(op: Operation, count: u64, words: &mut [u64], flags: &mut [u8]) -> u64 {
+    if op.letter == b'l' {
+        return op.first;
+    }
+    if op.letter == b'o' {
+        occupy(op.first as usize, op.second, words, flags);
+    }
+    count
+}
+
+fn occupy(slot: usize, identity: u64, words: &mut [u64], flags: &mut [u8]) {
+    if slot < words.len() && slot < flags.len() {
+        words[slot] = identity;
+        flags[slot] = 1;
     }
 }

@@ -22,10 +22,12 @@ pub struct Said {
     pub second: u8,
 }
 
-// In a letter's place: there is none, the number stands there; nothing is printed at all.
+// In a letter's place: there is none, the number stands there; nothing is printed at all; it is the word OK.
 const NUMBER: u8 = 0;
 
 const SILENT: u8 = 1;
+
+pub const OK: u8 = 2;
 
 // No field has this place, so no second letter.
 const NOWHERE: u64 = 11;
@@ -38,28 +40,6 @@ struct Spelt {
     b: u64,
     c: u64,
     d: u64,
-}
-
-// What is no command.
-pub fn unknown(out: &mut [u8], at: usize) -> usize {
-    put_byte(out, at, b'?')
-}
-
-// A refusal by its name: `R` and its number. Values follow as fields.
-pub fn refused(name: Name, out: &mut [u8], at: usize) -> usize {
-    let to = put(out, at, b"R");
-    put_field(out, to, refusal::number(name))
-}
-
-// A refusal of the gate.
-pub fn gate(refused_gate: Gate, out: &mut [u8], at: usize) -> usize {
-    refused(refusal::gate_name(refused_gate), out, at)
-}
-
-// A refusal with one value.
-pub fn refused_with(name: Name, value: u64, out: &mut [u8], at: usize) -> usize {
-    let to = refused(name, out, at);
-    put_field(out, to, value)
 }
 
 // A letter and the first fields of a row.
@@ -75,12 +55,21 @@ pub fn letter_and(letter: u8, count: u64, row: [u64; 10]) -> Said {
     }
 }
 
-pub fn say_nothing() -> Said {
-    letter_and(SILENT, 0, [0; 10])
+pub fn say_letter(letter: u8) -> Said {
+    letter_and(letter, 0, [0; 10])
 }
 
+pub fn say_nothing() -> Said {
+    say_letter(SILENT)
+}
+
+// What is no command.
 pub fn say_unknown() -> Said {
-    letter_and(b'?', 0, [0; 10])
+    say_letter(b'?')
+}
+
+pub fn is_silent(said: Said) -> bool {
+    said.letter == SILENT
 }
 
 // A number of two words.
@@ -115,6 +104,11 @@ pub fn say_refused_with(name: Name, value: u64) -> Said {
         2,
         [refusal::number(name), value, 0, 0, 0, 0, 0, 0, 0, 0],
     )
+}
+
+// The first `count` of three fields behind OK, or behind a letter.
+pub fn say_fields(letter: u8, count: u64, a: u64, b: u64, c: u64) -> Said {
+    letter_and(letter, count, [a, b, c, 0, 0, 0, 0, 0, 0, 0])
 }
 
 // COORD, with the letter of the coordinate.
@@ -234,6 +228,9 @@ pub fn put_said(said: Said, out: &mut [u8], at: usize) -> usize {
 fn put_start(letter: u8, hi: u64, lo: u64, out: &mut [u8], at: usize) -> usize {
     if letter == NUMBER {
         return put_wide(out, at, Wide { hi, lo });
+    }
+    if letter == OK {
+        return put(out, at, b"OK");
     }
     put_byte(out, at, letter)
 }

@@ -1,31 +1,22 @@
 // The words of the commands, as numbers: a 1 and then the bytes of the word, so that one match tells them apart.
 
-// The commands that have files of their own; all others are leaves, or none.
+// The commands by what they are on: a layout, an elastic table, a funnel table, with a letter of its own each, or numbers
+// alone; what is none is among the last. A run may be in bulk.
 pub enum Word {
-    ElasticLayout,
-    FunnelLayout,
-    ElasticRun,
-    ElasticBulk,
-    FunnelRun,
-    FunnelBulk,
-    Leaf,
+    Layout { elastic: bool },
+    Elastic { bulk: bool },
+    Funnel { letter: u8, bulk: bool },
+    Number,
 }
 
-// A command on numbers alone.
-pub enum Leaf {
-    Mix,
-    ElasticCounter,
-    FunnelCounter,
-    ElasticWord,
-    FunnelWord,
-    ElasticReduce,
-    FunnelReduce,
-    Position,
-    Bounded,
-    Coordinates,
-    Budget,
-    Unknown,
-}
+// The commands on a funnel table.
+pub const RUN: u8 = b'R';
+
+pub const LOAD: u8 = b'L';
+
+pub const WRITE: u8 = b'W';
+
+pub const CHECK: u8 = b'C';
 
 // The first `end` bytes of a line as a number, 0 where they are more than any command has.
 pub fn key_of(line: &[u8], end: usize) -> u64 {
@@ -51,45 +42,27 @@ fn shift_in(key: u64, b: u8) -> u64 {
 pub fn word_of(key: u64) -> Word {
     match key {
         // EL
-        0x1_454C => Word::ElasticLayout,
+        0x1_454C => Word::Layout { elastic: true },
         // FL
-        0x1_464C => Word::FunnelLayout,
+        0x1_464C => Word::Layout { elastic: false },
         // ERUN
-        0x1_4552_554E => Word::ElasticRun,
+        0x1_4552_554E => Word::Elastic { bulk: false },
         // EBULK
-        0x1_45_4255_4C4B => Word::ElasticBulk,
+        0x1_45_4255_4C4B => Word::Elastic { bulk: true },
         // FRUN
-        0x1_4652_554E => Word::FunnelRun,
+        0x1_4652_554E => on_funnel(RUN, false),
         // FBULK
-        0x1_46_4255_4C4B => Word::FunnelBulk,
-        _ => Word::Leaf,
+        0x1_46_4255_4C4B => on_funnel(RUN, true),
+        // LOAD
+        0x1_4C4F_4144 => on_funnel(LOAD, false),
+        // WRITE
+        0x1_57_5249_5445 => on_funnel(WRITE, false),
+        // CHECK
+        0x1_43_4845_434B => on_funnel(CHECK, false),
+        _ => Word::Number,
     }
 }
 
-pub fn leaf_of(key: u64) -> Leaf {
-    match key {
-        // MIX
-        0x1_4D_4958 => Leaf::Mix,
-        // EP
-        0x1_4550 => Leaf::ElasticCounter,
-        // FP
-        0x1_4650 => Leaf::FunnelCounter,
-        // EW
-        0x1_4557 => Leaf::ElasticWord,
-        // FW
-        0x1_4657 => Leaf::FunnelWord,
-        // ER
-        0x1_4552 => Leaf::ElasticReduce,
-        // FR
-        0x1_4652 => Leaf::FunnelReduce,
-        // PHI
-        0x1_50_4849 => Leaf::Position,
-        // PHB
-        0x1_50_4842 => Leaf::Bounded,
-        // PHINV
-        0x1_50_4849_4E56 => Leaf::Coordinates,
-        // BUD
-        0x1_42_5544 => Leaf::Budget,
-        _ => Leaf::Unknown,
-    }
+fn on_funnel(letter: u8, bulk: bool) -> Word {
+    Word::Funnel { letter, bulk }
 }

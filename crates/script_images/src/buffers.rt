@@ -1,18 +1,5 @@
-// Lent buffers: their making, what they hold on entry, and whether they still do.
-ghost use mathlib.Core.Path.{_≡_};
-ghost use lib.ListN.{length};
+// What lent buffers hold on entry, and whether they still do.
 use text::out::put;
-
-// The largest ROOM.
-pub const MOST_ROOM: u64 = 1048576;
-
-// As many zeros, room for an image. No line is long enough to spell a longer one. The `ensures` gives the length, which
-// lending the array as a slice needs.
-pub fn image_buffer() -> [u8; 1048576]
-    ensures { λ r. ⌜ 1048576 ≡ length r ⌝ }
-{
-    [0; 1048576]
-}
 
 // Every byte of a buffer the same.
 pub fn fill_bytes(bytes: &mut [u8], value: u8) {

@@ -1,62 +1,50 @@
-// A table opened in buffers of its length, and the request done on it.
+// A table opened in buffers of its length, and the task done on it.
 use crate::check;
+use crate::entries::put_entries;
 use crate::load;
-use crate::request::Asked;
-use crate::request::Request;
+use crate::request::Task;
+use crate::request::asked_by;
 use crate::write;
 use funnel::table::FunnelTable;
 use funnel::table::OpenAnswer;
 use funnel_calls::calls::open;
-use script::digest::word_buffer;
-use script::funnels::Size;
-use script::funnels::size_of;
-use script::opening::Opening;
-use script::print;
-use text::out::put_byte;
+use script::print::is_silent;
+use script::print::put_said;
+use script::print::say_gate;
+use script::request::Opening;
+use script::word::LOAD;
+use script::word::RUN;
+use script::word::WRITE;
+use script_funnel::runs::run;
+use text::buffers::word_buffer;
 
-// The answer to a command.
-pub fn answer(asked: Asked, line: &[u8], out: &mut [u8], at: usize) -> usize {
-    match asked {
-        Asked::Unknown => print::unknown(out, at),
-        Asked::Of { opening, request } => sized(opening, request, line, out, at),
+// The answer to a command by its letter; a run may be in bulk.
+pub fn command(
+    letter: u8,
+    bulk: bool,
+    line: &[u8],
+    args: usize,
+    out: &mut [u8],
+    at: usize,
+) -> usize {
+    let asked = asked_by(letter, bulk, line, args);
+    let said = asked.said;
+    if is_silent(said) {
+        return held(asked.opening, asked.task, line, out, at);
     }
+    put_said(said, out, at)
 }
 
-fn sized(opening: Opening, request: Request, line: &[u8], out: &mut [u8], at: usize) -> usize {
-    match size_of(opening.n, opening.e, opening.cap) {
-        Size::Refused(name) => print::refused(name, out, at),
-        Size::Large => too_large(request, out, at),
-        Size::Fits => held(opening, request, line, out, at),
-    }
-}
-
-// A table of more slots than there is room for. LIMITS, for a long label, comes before that.
-fn too_large(request: Request, out: &mut [u8], at: usize) -> usize {
-    match request {
-        Request::Write {
-            label,
-            label_end,
-            room: _,
-            entries: _,
-        } => write::too_large(label, label_end, out, at),
-        Request::Load { image: _ } => put_byte(out, at, b'L'),
-        Request::Check {
-            count: _,
-            entries: _,
-        } => put_byte(out, at, b'L'),
-    }
-}
-
-fn held(opening: Opening, request: Request, line: &[u8], out: &mut [u8], at: usize) -> usize {
+fn held(opening: Opening, task: Task, line: &[u8], out: &mut [u8], at: usize) -> usize {
     let mut words = word_buffer();
     let mut flags = io::large_buffer();
-    cut(opening, request, line, &mut words, &mut flags, out, at)
+    cut(opening, task, line, &mut words, &mut flags, out, at)
 }
 
-// The request in the first n slots of large buffers.
+// The task in the first n slots of large buffers.
 fn cut(
     opening: Opening,
-    request: Request,
+    task: Task,
     line: &[u8],
     words: &mut [u64],
     flags: &mut [u8],
@@ -72,7 +60,7 @@ fn cut(
     }
     opened(
         opening,
-        request,
+        task,
         line,
         &mut words[..n],
         &mut flags[..n],
@@ -83,7 +71,7 @@ fn cut(
 
 fn opened(
     opening: Opening,
-    request: Request,
+    task: Task,
     line: &[u8],
     words: &mut [u64],
     flags: &mut [u8],
@@ -91,22 +79,31 @@ fn opened(
     at: usize,
 ) -> usize {
     let mut counts = [0u64; 118];
-    match open(
+    match open_in(opening, &mut counts, words, flags) {
+        OpenAnswer::Gate(gate) => put_said(say_gate(gate), out, at),
+        OpenAnswer::Table(table) => done(task, line, table, &counts, words, flags, out, at),
+    }
+}
+
+fn open_in(
+    opening: Opening,
+    counts: &mut [u64; 118],
+    words: &mut [u64],
+    flags: &mut [u8],
+) -> OpenAnswer {
+    open(
         opening.n,
         opening.e,
         opening.seed,
         opening.cap,
-        &mut counts,
+        counts,
         words,
         flags,
-    ) {
-        OpenAnswer::Gate(gate) => print::gate(gate, out, at),
-        OpenAnswer::Table(table) => done(request, line, table, &counts, words, flags, out, at),
-    }
+    )
 }
 
 fn done(
-    request: Request,
+    task: Task,
     line: &[u8],
     table: FunnelTable,
     counts: &[u64; 118],
@@ -115,28 +112,29 @@ fn done(
     out: &mut [u8],
     at: usize,
 ) -> usize {
-    match request {
-        Request::Load { image } => load::run(line, image, table, counts, words, flags, out, at),
-        Request::Write {
-            label,
-            label_end,
-            room,
-            entries,
-        } => write::run(
-            line,
-            label,
-            label_end,
-            room,
-            entries,
-            table,
-            counts,
-            words,
-            flags,
-            out,
-            at,
-        ),
-        Request::Check { count, entries } => {
-            check::run(line, entries, count, table, counts, words, flags, out, at)
-        }
+    if task.letter == RUN {
+        return run(task.run, line, table, counts, words, flags, out, at);
     }
+    if task.letter == LOAD {
+        return load::run(task, line, table, counts, words, flags, out, at);
+    }
+    put_entries(line, task.entries, words, flags);
+    answered(task, line, table, counts, words, flags, out, at)
+}
+
+// WRITE and CHECK, of a table that holds the entries.
+fn answered(
+    task: Task,
+    line: &[u8],
+    table: FunnelTable,
+    counts: &[u64; 118],
+    words: &[u64],
+    flags: &[u8],
+    out: &mut [u8],
+    at: usize,
+) -> usize {
+    if task.letter == WRITE {
+        return write::run(task, line, table, counts, words, flags, out, at);
+    }
+    check::run(task.number, table, counts, words, flags, out, at)
 }

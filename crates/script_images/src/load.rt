@@ -3,43 +3,27 @@ use crate::buffers::all_bytes;
 use crate::buffers::count_up;
 use crate::buffers::do_count_up;
 use crate::buffers::fill_bytes;
-use crate::buffers::image_buffer;
 use crate::buffers::put_kept;
-use crate::bytes::are_bytes;
 use crate::bytes::spell;
-use crate::request::Asked;
-use crate::request::Request;
+use crate::request::Task;
 use funnel::table::FunnelTable;
 use image_calls::calls::Loaded;
 use image_calls::calls::load_image;
 use refusal::Name;
 use script::digest::put_digest;
-use script::opening::Head;
-use script::opening::opening_of;
-use script::print;
-use text::out::put;
-use text::out::put_field;
-
-// The command, or that the line is none.
-pub fn asked(line: &[u8], args: usize) -> Asked {
-    match opening_of(line, args) {
-        Head::Unknown => Asked::Unknown,
-        Head::Of { opening, next } => {
-            if are_bytes(line, next, line.len()) {
-                return Asked::Of {
-                    opening,
-                    request: Request::Load { image: next },
-                };
-            }
-            Asked::Unknown
-        }
-    }
-}
+use script::print::OK;
+use script::print::Said;
+use script::print::put_said;
+use script::print::say_fields;
+use script::print::say_gate;
+use script::print::say_refused;
+use script::print::say_refused_with;
+use text::buffers::image_buffer;
 
 // The call on a fresh table, and its answer.
 pub fn run(
+    task: Task,
     line: &[u8],
-    from: usize,
     table: FunnelTable,
     counts: &[u64; 118],
     words: &mut [u64],
@@ -49,57 +33,52 @@ pub fn run(
 ) -> usize {
     count_up(words);
     fill_bytes(flags, 1);
-    let mut image = image_buffer();
-    load(line, from, table, counts, words, flags, &mut image, out, at)
+    let said = loaded(task, line, table, counts, words, flags);
+    put_loaded(said, words, flags, out, at)
 }
 
-fn load(
+fn loaded(
+    task: Task,
     line: &[u8],
-    from: usize,
+    table: FunnelTable,
+    counts: &[u64; 118],
+    words: &mut [u64],
+    flags: &mut [u8],
+) -> Said {
+    let mut image = image_buffer();
+    loaded_from(task, line, table, counts, words, flags, &mut image)
+}
+
+fn loaded_from(
+    task: Task,
+    line: &[u8],
     table: FunnelTable,
     counts: &[u64; 118],
     words: &mut [u64],
     flags: &mut [u8],
     image: &mut [u8],
-    out: &mut [u8],
-    at: usize,
-) -> usize {
-    let k = spell(line, from, line.len(), image);
-    let answer = load_image(table, counts, words, flags, &image[..k]);
-    put_loaded(answer, words, flags, out, at)
+) -> Said {
+    let k = spell(line, task.from, task.to, image);
+    of_loaded(load_image(table, counts, words, flags, &image[..k]))
 }
 
-fn put_loaded(answer: Loaded, words: &[u64], flags: &[u8], out: &mut [u8], at: usize) -> usize {
+fn of_loaded(answer: Loaded) -> Said {
     match answer {
-        Loaded::Gate(gate) => {
-            let to = print::gate(gate, out, at);
-            put_kept(as_on_entry(words, flags), out, to)
-        }
-        Loaded::Image { place } => {
-            let to = print::refused_with(Name::Image, place, out, at);
-            put_kept(as_on_entry(words, flags), out, to)
-        }
-        Loaded::Foreign => {
-            let to = print::refused(Name::Foreign, out, at);
-            put_kept(as_on_entry(words, flags), out, to)
-        }
+        Loaded::Gate(gate) => say_gate(gate),
+        Loaded::Image { place } => say_refused_with(Name::Image, place),
+        Loaded::Foreign => say_refused(Name::Foreign),
         Loaded::Done {
             table,
             label_at,
             label_len,
-        } => {
-            let mut to = put(out, at, b"OK");
-            to = put_field(out, to, label_at);
-            to = put_field(out, to, label_len);
-            to = put_field(out, to, table.count);
-            put_digest(words, flags, out, to)
-        }
+        } => say_fields(OK, 3, label_at, label_len, table.count),
     }
 }
 
-fn as_on_entry(words: &[u64], flags: &[u8]) -> bool {
-    if do_count_up(words) {
-        return all_bytes(flags, 1);
+fn put_loaded(said: Said, words: &[u64], flags: &[u8], out: &mut [u8], at: usize) -> usize {
+    let to = put_said(said, out, at);
+    if said.letter == OK {
+        return put_digest(words, flags, out, to);
     }
-    false
+    put_kept(do_count_up(words) && all_bytes(flags, 1), out, to)
 }

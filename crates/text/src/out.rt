@@ -73,6 +73,28 @@ pub fn put_row(out: &mut [u8], at: usize, most: u64, row: &[u64]) -> usize {
     to
 }
 
+// The first `most` numbers of a row, joined by commas.
+pub fn put_joined(out: &mut [u8], at: usize, most: u64, row: &[u64]) -> usize {
+    let mut to = at;
+    let mut i = 0;
+    while i < row.len() {
+        if most <= i as u64 {
+            return to;
+        }
+        to = put_next(out, to, i, row[i]);
+        i += 1;
+    }
+    to
+}
+
+fn put_next(out: &mut [u8], at: usize, i: usize, n: u64) -> usize {
+    if i == 0 {
+        return put_decimal(out, at, n);
+    }
+    let to = put_byte(out, at, b',');
+    put_decimal(out, to, n)
+}
+
 // The first `most` pairs `a:b` of two rows, each behind a space.
 pub fn put_pairs(out: &mut [u8], at: usize, most: u64, left: &[u64], right: &[u64]) -> usize {
     let mut to = at;
@@ -84,12 +106,47 @@ pub fn put_pairs(out: &mut [u8], at: usize, most: u64, left: &[u64], right: &[u6
         if right.len() <= i {
             return to;
         }
-        to = put_field(out, to, left[i]);
-        to = put_byte(out, to, b':');
-        to = put_decimal(out, to, right[i]);
+        to = put_form(out, to, b" #:#", [left[i], right[i], 0, 0]);
         i += 1;
     }
     to
+}
+
+// A form: bytes as they are, but for each `#` the next of a row of numbers. It makes a line with numbers one call, and a
+// proof grows with the calls of a function that holds the output.
+pub fn put_form(out: &mut [u8], at: usize, form: &[u8], row: [u64; 4]) -> usize {
+    let mut to = at;
+    let mut used = 0;
+    let mut i = 0;
+    while i < form.len() {
+        to = put_formed(out, to, form[i], entry(row, used));
+        used = after(used, form[i]);
+        i += 1;
+    }
+    to
+}
+
+fn put_formed(out: &mut [u8], at: usize, b: u8, n: u64) -> usize {
+    if b == b'#' {
+        return put_decimal(out, at, n);
+    }
+    put_byte(out, at, b)
+}
+
+// An entry of a row, 0 past its end.
+fn entry(row: [u64; 4], i: u64) -> u64 {
+    if i < 4 {
+        return row[i as usize];
+    }
+    0
+}
+
+// How many entries are used after a byte of a form.
+fn after(used: u64, b: u8) -> u64 {
+    if b == b'#' {
+        return std::num::wrapping_add_u64(used, 1);
+    }
+    used
 }
 
 // A number as 16 hexadecimal digits.

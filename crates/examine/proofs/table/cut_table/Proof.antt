@@ -1,7 +1,7 @@
 -- `examine::table::cut_table` meets its contract. Assumes nothing.
 use borrow.Author.Needs.{needs}
+use lib.ListN.{length-take}
 use native.Mathlib.Omega.{arith}
-use lib.ListN.{length, length-take}
 use Rattle.examine.proofs.table.cut_table.Statement.{statement}
 use Rattle.examine.proofs.table.cut_table.Tie as tie
 
@@ -11,20 +11,20 @@ returns c = search needs
 returns-2 : tie.Need-returns-2
 returns-2 c = search needs
 
-slice-relend-prefix-cut-check : tie.Need-slice-relend-prefix-cut-check
-slice-relend-prefix-cut-check c = search needs
+slice-relend-prefix-open-table : tie.Need-slice-relend-prefix-open-table
+slice-relend-prefix-open-table c = search needs
 
-slice-aggregate-cut-check : tie.Need-slice-aggregate-cut-check
-slice-aggregate-cut-check c = simp length-take (omega arith)
+slice-aggregate-open-table : tie.Need-slice-aggregate-open-table
+slice-aggregate-open-table c = simp length-take (omega arith)
 
-slice-relend-prefix-cut-check-2 : tie.Need-slice-relend-prefix-cut-check-2
-slice-relend-prefix-cut-check-2 c = search needs
+slice-relend-prefix-open-table-2 : tie.Need-slice-relend-prefix-open-table-2
+slice-relend-prefix-open-table-2 c = search needs
 
-slice-aggregate-cut-check-2 : tie.Need-slice-aggregate-cut-check-2
-slice-aggregate-cut-check-2 c = simp length-take (omega arith)
+slice-aggregate-open-table-2 : tie.Need-slice-aggregate-open-table-2
+slice-aggregate-open-table-2 c = simp length-take (omega arith)
 
-cut-check-requires : tie.Need-cut-check-requires
-cut-check-requires c κs = search needs
+open-table-requires : tie.Need-open-table-requires
+open-table-requires c κs = search needs
 
 same-length : tie.Need-same-length
 same-length c = search needs
@@ -35,12 +35,6 @@ same-length-2 c = search needs
 same-length-3 : tie.Need-same-length-3
 same-length-3 c = search needs
 
-same-length-4 : tie.Need-same-length-4
-same-length-4 c = search needs
-
-same-length-5 : tie.Need-same-length-5
-same-length-5 c = search needs
-
 returns-3 : tie.Need-returns-3
 returns-3 c = search needs
 
@@ -50,14 +44,12 @@ cut-table-spec =
     (tie.spec
     returns
     returns-2
-    slice-relend-prefix-cut-check
-    slice-aggregate-cut-check
-    slice-relend-prefix-cut-check-2
-    slice-aggregate-cut-check-2
-    cut-check-requires
+    slice-relend-prefix-open-table
+    slice-aggregate-open-table
+    slice-relend-prefix-open-table-2
+    slice-aggregate-open-table-2
+    open-table-requires
     same-length
     same-length-2
     same-length-3
-    same-length-4
-    same-length-5
     returns-3)

@@ -18,6 +18,9 @@ returns c = search needs
 field-end-requires : tie.Need-field-end-requires Inv-loop μ-loop
 field-end-requires c κs = search needs
 
+parse-requires : tie.Need-parse-requires Inv-loop μ-loop
+parse-requires c κs = search needs
+
 is-operation-requires : tie.Need-is-operation-requires Inv-loop μ-loop
 is-operation-requires c κs = search needs
 
@@ -48,6 +51,7 @@ are-operations-spec =
     loop-holds
     returns
     field-end-requires
+    parse-requires
     is-operation-requires
     returns-2
     field-after-requires

@@ -7,10 +7,10 @@ use Rattle.text.proofs.out.put_pairs.Statement.{statement}
 use Rattle.text.proofs.out.put_pairs.Tie as tie
 
 abbrev Inv-loop : tie.InvT-loop
-Inv-loop out₀ at most left right to₀ i₀ out to i = (i ≤ length left) × (length out ≡ length out₀)
+Inv-loop out₀ at most left right to₀ i₀ t8 out to i = (i ≤ length left) × (length out ≡ length out₀)
 
 abbrev μ-loop : tie.MeasureT-loop
-μ-loop out₀ at most left right to₀ i₀ out to i = length left - i
+μ-loop out₀ at most left right to₀ i₀ t8 out to i = length left - i
 
 loop-holds : tie.Need-loop-holds Inv-loop μ-loop
 loop-holds c = search needs
@@ -27,26 +27,23 @@ same-length-2 c = search needs
 returns-2 : tie.Need-returns-2 Inv-loop μ-loop
 returns-2 c = search needs
 
-mul-put-field : tie.Need-mul-put-field Inv-loop μ-loop
-mul-put-field c = search needs
+slice-aggregate-put-form : tie.Need-slice-aggregate-put-form Inv-loop μ-loop
+slice-aggregate-put-form c = search needs
 
-shared-slice-read-put-field : tie.Need-shared-slice-read-put-field Inv-loop μ-loop
-shared-slice-read-put-field c = search needs
+mul-t9 : tie.Need-mul-t9 Inv-loop μ-loop
+mul-t9 c = search needs
 
-put-field-requires : tie.Need-put-field-requires Inv-loop μ-loop
-put-field-requires c κs = search needs
+shared-slice-read-t11 : tie.Need-shared-slice-read-t11 Inv-loop μ-loop
+shared-slice-read-t11 c = search needs
 
-put-byte-requires : tie.Need-put-byte-requires Inv-loop μ-loop
-put-byte-requires c κs = search needs
+mul-t17 : tie.Need-mul-t17 Inv-loop μ-loop
+mul-t17 c = search needs
 
-mul-put-decimal : tie.Need-mul-put-decimal Inv-loop μ-loop
-mul-put-decimal c = search needs
+shared-slice-read-t19 : tie.Need-shared-slice-read-t19 Inv-loop μ-loop
+shared-slice-read-t19 c = search needs
 
-shared-slice-read-put-decimal : tie.Need-shared-slice-read-put-decimal Inv-loop μ-loop
-shared-slice-read-put-decimal c = search needs
-
-put-decimal-requires : tie.Need-put-decimal-requires Inv-loop μ-loop
-put-decimal-requires c κs = search needs
+put-form-requires : tie.Need-put-form-requires Inv-loop μ-loop
+put-form-requires c κs = search needs
 
 add-i : tie.Need-add-i Inv-loop μ-loop
 add-i c = search needs
@@ -74,13 +71,12 @@ put-pairs-spec =
     returns
     same-length-2
     returns-2
-    mul-put-field
-    shared-slice-read-put-field
-    put-field-requires
-    put-byte-requires
-    mul-put-decimal
-    shared-slice-read-put-decimal
-    put-decimal-requires
+    slice-aggregate-put-form
+    mul-t9
+    shared-slice-read-t11
+    mul-t17
+    shared-slice-read-t19
+    put-form-requires
     add-i
     loop-less
     loop-again
