@@ -10,6 +10,7 @@ use lib.Dec.{eqb, ltb}
 use lib.ListN.{length, getD, set, replicate, length-set, length-replicate, getD-replicate}
 use lib.Seq.{getD-set-same, getD-set-other}
 use borrow.Author.Tests.{eq-eqb, ne-eqb, eqb-true, eqb-false, ltb-false}
+use Rattle.words.specs.BytesLaws.{getD-zeros}
 use Rattle.words.specs.declared.place.LogicalProbe.{LogicalProbe}
 use Rattle.words.specs.Pick.{pick}
 use Rattle.geometry.specs.declared.config.Gated.{Gated}
@@ -91,12 +92,7 @@ occupied-more fs s from (suc size) l v a b = go (eqb from s) refl (λ d. occupie
 occupied-none : (n from size : ℕ) → occupied (replicate n 0) from size ≡ 0
 unfolding occupied
 occupied-none n from zero = refl
-occupied-none n from (suc size) = rw (zeros n from, occupied-none n (from + 1) size)
-  where
-    zeros : (n i : ℕ) → getD {A = ℕ} (replicate n 0) i 0 ≡ 0
-    zeros zero i = refl
-    zeros (suc n) zero = refl
-    zeros (suc n) (suc i) = zeros n i
+occupied-none n from (suc size) = rw (getD-zeros n from, occupied-none n (from + 1) size)
 
 -- ---- sums
 
@@ -138,13 +134,8 @@ counted-fresh n e seed limits =
       size = length-replicate {A = ℕ} 32 0;
       flags-size = length-replicate {A = ℕ} n 0;
       sums = total-zeros 32;
-      levels = λ k h. zeros 32 k ∙ sym (occupied-none n (offsetAt n k) (lengthAt n k));
+      levels = λ k h. getD-zeros 32 k ∙ sym (occupied-none n (offsetAt n k) (lengthAt n k));
     }
-  where
-    zeros : (n i : ℕ) → getD {A = ℕ} (replicate n 0) i 0 ≡ 0
-    zeros zero i = refl
-    zeros (suc n) zero = refl
-    zeros (suc n) (suc i) = zeros n i
 
 module _ (st : State) (cs ws fs : List ℕ) (id : ℕ) (k : Counted st cs fs) (few : levelsOf (st .n) ≤ 32) (within : (l : ℕ) → l < levelsOf (st .n) → offsetAt (st .n) l + lengthAt (st .n) l ≤ st .n) where
   counted-one : (level slot : ℕ) → level < levelsOf (st .n) → offsetAt (st .n) level ≤ slot → slot < offsetAt (st .n) level + lengthAt (st .n) level → getD fs slot 0 ≡ 0
