@@ -11,6 +11,7 @@ use lib.Seq.{getD-set-same, getD-set-other}
 use lib.Pow.{pow-mono}
 use lib.Dec.{ltb}
 use borrow.Author.Tests.{eq-eqb, ne-eqb, ltb-true, ltb-false}
+use Rattle.words.specs.BytesLaws.{getD-zeros}
 use Rattle.words.specs.Pick.{pick}
 use Rattle.geometry.specs.Funnel.{IsPlan}
 use Rattle.geometry.specs.FunnelLaws.{plan-facts}
@@ -53,13 +54,8 @@ special-room {n} {e} {plan} is {start} at =
 
 -- ---- marks that are 0 or 1, and 0 from a slot on
 
-zeros : (n i : ℕ) → getD (replicate {A = ℕ} n 0) i 0 ≡ 0
-zeros zero i = refl
-zeros (suc n) zero = refl
-zeros (suc n) (suc i) = zeros n i
-
 pub early-cleared : (marks before : List ℕ) → marks ≡ replicate (length before) 0 → Early 0 marks
-early-cleared marks before e = record { small = λ i. (let z = zeros (length before) i in rw e (omega arith)); none = λ i l. rw e (zeros (length before) i) }
+early-cleared marks before e = record { small = λ i. (let z = getD-zeros (length before) i in rw e (omega arith)); none = λ i l. rw e (getD-zeros (length before) i) }
 
 set-small : (marks : List ℕ) (i j : ℕ) → getD marks j 0 ≤ 1 → getD (set marks i 1) j 0 ≤ 1
 set-small [] i j h = h

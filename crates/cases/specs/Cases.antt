@@ -36,7 +36,8 @@ use Rattle.funnel.specs.declared.table.OpenAnswer.the-variants as opening
 use Rattle.funnel.specs.Calls.{Opens}
 use Rattle.audit_calls.specs.declared.check.Checked.{Checked}
 use Rattle.audit_calls.specs.Check.{Ended, ended, checkOf, reportOf}
-use Rattle.cases.specs.OneBucket.{counts, table, zeros, Distinct, Fills, Given, Ends}
+use Rattle.funnel.specs.OneBucket.{counts, table}
+use Rattle.cases.specs.OneBucket.{zeros, Distinct, Fills, Given, Ends}
 use Rattle.cases.specs.FillLaws.{opens, fills}
 use Rattle.cases.specs.CheckLaws.{empty, only-second, twice}
 use Rattle.cases.specs.FirstInsertLaws.{two-reading, first-insert, first-query, first-refused}

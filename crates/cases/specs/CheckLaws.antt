@@ -5,10 +5,10 @@ use mathlib.Core.Path.{_≡_, refl, _∙_}
 use Prim.Native.Nat.{ℕ, zero, suc, _+_}
 use native.Mathlib.Omega.{arith}
 use lib.ListN.{set}
+use Rattle.words.specs.BytesLaws.{getD-zeros}
 use Rattle.funnel.specs.declared.table.FunnelTable.{FunnelTable}
 use Rattle.funnel.specs.declared.table.Search.the-variants as search
 use Rattle.funnel.specs.Dirty.{dirtyAt}
-use Rattle.funnel.specs.FreshLaws.{zero-at}
 use Rattle.audit_calls.specs.declared.check.Checked.the-variants as checked
 use Rattle.audit.specs.declared.slots.First.{First}
 use Rattle.audit.specs.declared.slots.First.the-variants.{At, Nothing}
@@ -18,7 +18,8 @@ use Rattle.audit.specs.ReadyLaws.{unplaced-vacant, ready-vacant, ready-marked, 
 use Rattle.audit_calls.specs.Check.{Lent, ended, answerOf, endOf, takeAll, auditOf, checkOf}
 use Rattle.funnel.specs.DirtyLaws.{clean-vacant}
 use Rattle.audit_calls.specs.CheckLaws.{check-audit}
-use Rattle.cases.specs.OneBucket.{counts, table, zeros, ordinary, Given}
+use Rattle.funnel.specs.OneBucket.{counts, table}
+use Rattle.cases.specs.OneBucket.{zeros, ordinary, Given}
 use Rattle.cases.specs.OneBucketLaws.{is-plan, find-vacant, find-hit}
 
 -- ---- the greedy order, turn by turn
@@ -68,7 +69,7 @@ module _ (seed cap count : ℕ) (marks order : List ℕ) (given : Given cap coun
 
   -- slots 0 and 1 tell whether the greedy order stops
   stops : (ms : List ℕ) (placed : ℕ) → Ready ms placed 0 ≡ false → Ready ms placed 1 ≡ false → firstFrom (Ready ms placed) 0 144 ≡ Nothing
-  stops ms placed h k = by-two (Ready ms placed) h k (λ i. ready-vacant t counts (two a b) (two x y) ms placed (suc (suc i)) (zero-at 142 i)) 144
+  stops ms placed h k = by-two (Ready ms placed) h k (λ i. ready-vacant t counts (two a b) (two x y) ms placed (suc (suc i)) (getD-zeros 142 i)) 144
 
   -- the check, by where the greedy order ends
   ends : dirtyAt (two a b) (two x y) 0 ≡ false → dirtyAt (two a b) (two x y) 1 ≡ false → (ms os : List ℕ) (placed : ℕ) (r : First)
@@ -76,7 +77,7 @@ module _ (seed cap count : ℕ) (marks order : List ℕ) (given : Given cap coun
       → checkOf t counts (two a b) (two x y) marks order ≡ ended (answerOf r placed) ms os
   unfolding auditOf takeAll endOf
   ends h k ms os placed r g u =
-      let c : firstFrom (dirtyAt (two a b) (two x y)) 0 144 ≡ Nothing = by-two (dirtyAt (two a b) (two x y)) h k (λ i. clean-vacant (two a b) (two x y) (suc (suc i)) (zero-at 142 i) (zero-at 142 i)) 144 in
+      let c : firstFrom (dirtyAt (two a b) (two x y)) 0 144 ≡ Nothing = by-two (dirtyAt (two a b) (two x y)) h k (λ i. clean-vacant (two a b) (two x y) (suc (suc i)) (getD-zeros 142 i) (getD-zeros 142 i)) 144 in
       check-audit t counts (two a b) (two x y) marks order lent ∙ rw (c, g, u)
 
 -- ---- the three images
@@ -93,7 +94,7 @@ module _ (seed cap count : ℕ) (marks order : List ℕ) (given : Given cap coun
       (greedy-stops here counts (two 0 0) (two 0 0) 144 143 (zeros 144) order 0
       (stops seed cap count marks order given 0 0 0 0 (zeros 144) 0
       (ready-vacant here counts (two 0 0) (two 0 0) (zeros 144) 0 0 refl) (ready-vacant here counts (two 0 0) (two 0 0) (zeros 144) 0 1 refl)))
-      (by-two (unplaced (two 0 0) (zeros 144)) (unplaced-vacant (two 0 0) (zeros 144) 0 refl) (unplaced-vacant (two 0 0) (zeros 144) 1 refl) (λ i. unplaced-vacant (two 0 0) (zeros 144) (suc (suc i)) (zero-at 142 i)) 144)
+      (by-two (unplaced (two 0 0) (zeros 144)) (unplaced-vacant (two 0 0) (zeros 144) 0 refl) (unplaced-vacant (two 0 0) (zeros 144) 1 refl) (λ i. unplaced-vacant (two 0 0) (zeros 144) (suc (suc i)) (getD-zeros 142 i)) 144)
 
   module _ (identity : ℕ) where
     -- "only slot 1 occupied: DISORDER, placed 0, slot 1": an insertion into the empty part would be answered at slot 0

@@ -5,6 +5,7 @@ use Prim.Native.Nat.{ℕ, zero, suc, _+_, _-_, _≤_, _<_}
 use native.Mathlib.Omega.{arith}
 use lib.ListN.{length, getD, set, replicate, length-replicate, length-append, replicate-append-replicate, List·getD-append}
 use lib.Seq.{set-append-seam, set-at, getD-append-seam}
+use Rattle.words.specs.BytesLaws.{getD-zeros}
 use Rattle.funnel.specs.declared.table.FunnelTable.{FunnelTable}
 use Rattle.funnel.specs.declared.table.Insertion.{Insertion}
 use Rattle.funnel.specs.declared.table.Insertion.the-variants as insertion
@@ -12,7 +13,6 @@ use Rattle.funnel.specs.declared.table.InsertAnswer.the-variants as inserted
 use Rattle.funnel.specs.declared.table.Search.the-variants as search
 use Rattle.funnel.specs.Valid.{Valid}
 use Rattle.funnel.specs.Fresh.{State}
-use Rattle.funnel.specs.FreshLaws.{zero-at}
 use Rattle.funnel.specs.Insert.{done, insertOf}
 use Rattle.funnel.specs.InsertLaws.{insert-inserted, insert-spent-vacant, insert-duplicate}
 use Rattle.geometry.specs.declared.config.Gated.the-variants.{Passed}
@@ -22,7 +22,8 @@ use Rattle.funnel.specs.Calls.{Opens, insertions}
 use Rattle.funnel.specs.CallLaws.{limits-pass, lengths-pass, open-gate-later, valid-gate, insert-passed}
 use Rattle.funnel.specs.Search.{findOf}
 use Rattle.funnel.specs.SearchLaws.{Passes}
-use Rattle.cases.specs.OneBucket.{counts, table, zeros, ordinary, called, stateAfter, callsOf, opened, Distinct, Other, held, Fills}
+use Rattle.funnel.specs.OneBucket.{counts, table}
+use Rattle.cases.specs.OneBucket.{zeros, ordinary, called, stateAfter, callsOf, opened, Distinct, Other, held, Fills}
 use Rattle.cases.specs.OneBucketLaws.{is-plan, find-vacant, find-hit}
 
 -- ---- set flags, and vacant ones after them
@@ -33,7 +34,7 @@ flag-set (suc k) m zero h e = omega arith
 flag-set (suc k) m (suc j) h e = flag-set k m j (omega arith) e
 
 flag-vacant : (k m : ℕ) → getD (replicate k 1 ++ zeros m) k 0 ≡ 0
-flag-vacant zero m = zero-at m 0
+flag-vacant zero m = getD-zeros m 0
 flag-vacant (suc k) m = flag-vacant k m
 
 -- one slot more

@@ -1,4 +1,4 @@
--- The funnel table of 144 slots and reserve 1/8, in which every level is one bucket: its plan, its ordinary places, what it holds after
+-- The funnel table of 144 slots and reserve 1/8, in which every level is one bucket: its ordinary places, what it holds after
 -- some insertions, and what 01 says of it. Assumes nothing.
 use mathlib.Core.List.{List, [], _∷_, _++_}
 use mathlib.Core.Path.{_≡_}
@@ -8,36 +8,13 @@ use Rattle.words.specs.declared.place.Place.{Place}
 use Rattle.words.specs.declared.place.Place.the-variants as place
 use Rattle.refusal.specs.Table.{Report, answered, refused}
 use Rattle.refusal.specs.declared.Name.the-variants as name
-use Rattle.geometry.specs.declared.funnel.FunnelPlan.{FunnelPlan}
 use Rattle.funnel.specs.declared.table.FunnelTable.{FunnelTable}
 use Rattle.funnel.specs.declared.table.InsertAnswer.{InsertAnswer}
 use Rattle.funnel.specs.declared.table.InsertAnswer.the-variants as inserted
 use Rattle.funnel.specs.Calls.{Insertions, insertAnswerOf, insertedReport, placeValues}
 use Rattle.funnel.specs.Fresh.{State, fresh}
+use Rattle.funnel.specs.OneBucket.{plan, counts, table}
 use Rattle.audit_calls.specs.Check.{Ended, reportOf}
-
-abbrev pub plan : FunnelPlan
-plan =
-    record {
-      maximum = 126;
-      alpha = 22;
-      beta = 6;
-      «loglog_ceiling» = 3;
-      «fallback_bucket_width» = 6;
-      «special_len» = 12;
-      «special_primary_len» = 6;
-      «special_fallback_len» = 6;
-      «fallback_bucket_count» = 1;
-      «total_buckets» = 22;
-      «first_bucket_count» = 1;
-    }
-
--- "every level one bucket"
-unfoldable pub counts : List ℕ
-counts = replicate 22 1 ++ replicate 96 0
-
-abbrev pub table : (seed cap count : ℕ) → FunnelTable
-table seed cap count = record { n = 144; e = 3; seed = seed; «word_cap» = cap; count = count; plan = plan }
 
 -- vacant slots: their words, or their flags
 abbrev pub zeros : ℕ → List ℕ

@@ -33,7 +33,8 @@ use Rattle.funnel.specs.Path.{Path, run, join, levelStart, bucketFrom, levelsFr
 use Rattle.funnel.specs.Every.{Every}
 use Rattle.funnel.specs.Search.{searchOf, tablePath, findOf}
 use Rattle.funnel.specs.SearchLaws.{Passes, Reached, reached-vacant, reached-hit}
-use Rattle.cases.specs.OneBucket.{plan, counts, table, ordinary, ordinaries}
+use Rattle.funnel.specs.OneBucket.{plan, counts, table}
+use Rattle.cases.specs.OneBucket.{ordinary, ordinaries}
 
 -- ---- the plan
 

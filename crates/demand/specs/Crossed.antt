@@ -10,6 +10,7 @@ use lib.ListN.{getD, set, replicate}
 use lib.Seq.{getD-set-other}
 use lib.Dec.{eqb}
 use borrow.Author.Tests.{eqb-false}
+use Rattle.words.specs.BytesLaws.{getD-zeros}
 use Rattle.words.specs.declared.place.Place.{Place}
 use Rattle.funnel.specs.declared.table.FunnelTable.{FunnelTable}
 use Rattle.funnel.specs.declared.table.Search.the-variants.{Vacant}
@@ -24,7 +25,7 @@ use Rattle.audit_calls.specs.CheckLaws.{check-audit}
 use Rattle.audit.specs.FirstLaws.{first-none}
 use Rattle.audit.specs.ReadyLaws.{ready-facts, unplaced-yes}
 use Rattle.demand.specs.Made.{Clean, Occupied, Before}
-use Rattle.demand.specs.MadeLaws.{getD-zeros, occupied-below}
+use Rattle.demand.specs.MadeLaws.{occupied-below}
 use Rattle.demand.specs.TakeLaws.{greedy-keeps}
 use Rattle.demand.specs.EndLaws.{end, image-clean}
 

@@ -9,6 +9,7 @@ use lib.ListN.{length, getD, replicate, length-replicate, List·getD-eq-default}
 use lib.Seq.{ext-getD}
 use lib.Dec.{eqb, ltb, leb}
 use borrow.Author.Tests.{eqb-true, eq-eqb, ltb-true, ltb-false, leb-true, leb-false}
+use Rattle.words.specs.BytesLaws.{getD-zeros}
 use Rattle.funnel.specs.declared.table.FunnelTable.{FunnelTable}
 use Rattle.funnel.specs.PathLaws.{path-below}
 use Rattle.funnel.specs.Search.{tablePath}
@@ -24,7 +25,7 @@ use Rattle.audit.specs.FirstLaws.{first-none, first-all}
 use Rattle.audit.specs.ReadyLaws.{unplaced-vacant, unplaced-marked, unplaced-yes}
 use Rattle.funnel.specs.FreshLaws.{occupied-none}
 use Rattle.demand.specs.Made.{Clean, Occupied, members, Made, PartOf}
-use Rattle.demand.specs.MadeLaws.{getD-zeros, members-part, members-whole}
+use Rattle.demand.specs.MadeLaws.{members-part, members-whole}
 use Rattle.demand.specs.WalkLaws.{Below}
 use Rattle.demand.specs.FillLaws.{Sized, Filled, fills-of, fills-members, fills-clean, inside}
 use Rattle.demand.specs.TakeLaws.{Taking, greedy-taking, greedy-ends}

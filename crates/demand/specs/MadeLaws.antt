@@ -15,11 +15,6 @@ use Rattle.demand.specs.Made.{Occupied, members, placedWords}
 
 -- ---- lists of flags
 
-pub getD-zeros : (n t : ℕ) → getD {A = ℕ} (replicate n 0) t 0 ≡ 0
-getD-zeros zero t = refl
-getD-zeros (suc n) zero = refl
-getD-zeros (suc n) (suc t) = getD-zeros n t
-
 -- a slot of a list after a store
 pub getD-set-cases : (l : List ℕ) (i v t : ℕ) (P : ℕ → Type 0) → i < length l → (t ≡ i → P v) → ((t ≡ i → ⊥) → P (getD l t 0)) → P (getD (set l i v) t 0)
 getD-set-cases l i v t P h a b = go (ℕ-discrete t i)

@@ -9,6 +9,7 @@ use lib.ListN.{length, getD, set, take, drop, replicate, length-set, length-repl
 use lib.Seq.{take-suc-set, drop-set-lt, drop-drop}
 use lib.Dec.{eqb}
 use borrow.Author.Tests.{eqb-false}
+use Rattle.words.specs.BytesLaws.{getD-zeros}
 use Rattle.words.specs.Pick.{pick}
 use Rattle.words.specs.declared.place.Place.{Place}
 use Rattle.funnel.specs.declared.table.FunnelTable.{FunnelTable}
@@ -26,7 +27,7 @@ use Rattle.audit.specs.ReadyLaws.{Ready, ready-facts, ready-marked}
 use Rattle.funnel.specs.Fresh.{occupied}
 use Rattle.funnel.specs.FreshLaws.{occupied-none, occupied-set}
 use Rattle.demand.specs.Made.{Occupied, members, Inserts, none, one, identitiesAt, placedWords}
-use Rattle.demand.specs.MadeLaws.{getD-zeros, getD-set-cases, members-most, placed-none, placed-set, placed-same}
+use Rattle.demand.specs.MadeLaws.{getD-set-cases, members-most, placed-none, placed-set, placed-same}
 use Rattle.demand.specs.WalkLaws.{find-same, Below}
 
 -- ---- what holds at each turn holds at the end

@@ -1,7 +1,7 @@
 -- The insertion: the choice of a slot, and what is written. Assumes nothing.
 use mathlib.Core.Bool.{Bool, true, false}
 use mathlib.Core.List.{List, [], _∷_, _++_}
-use Prim.Native.Nat.{ℕ, zero, suc, _+_, _-_, _*_, _/_, _^_}
+use Prim.Native.Nat.{ℕ, zero, suc, _+_, _-_, _*_, _/_, _^_, _≤_, _<_}
 use lib.Dec.{eqb, ltb, leb}
 use lib.ListN.{length, getD, set}
 use Rattle.refusal.specs.Table.{nameOf, Report, answered, refused}
@@ -121,6 +121,15 @@ done answer st cs ws fs = record { answer = answer; st = st; counts = cs; words 
 abbrev pub counted : State → State
 counted st = record { n = st .n; e = st .e; seed = st .seed; limits = st .limits; plan = st .plan; count = st .count + 1 }
 
+-- one member more in a level
+abbrev pub addedTo : List ℕ → (level : ℕ) → List ℕ
+addedTo cs level = set cs level (getD cs level 0 + 1)
+
+-- a level whose count can be stepped
+pub record Storable (cs : List ℕ) (level : ℕ) : Type 0 where
+  pub few : level < 32
+  pub low : getD cs level 0 ≤ 4294967296
+
 -- a slot of a level that starts at `offset`; paper probes count from 1
 abbrev pub takenAt : Case → (level slot offset : ℕ) → LogicalProbe → (position : ℕ) → Insertion
 takenAt case level slot offset probe position =
@@ -141,7 +150,7 @@ placeBy st cs ws fs id (chosen.Refused r) = done (answer.Refused r) st cs ws fs
 placeBy st cs ws fs id (chosen.Slot case level slot probe) =
     pick (ltb (st .limits .«hit_query_position_cap») (phi (level + 1) (probe .0 + 1)))
     (done (answer.Refused refusal.Position) st cs ws fs)
-    (done (answer.Inserted (insertionOf (st .n) case level slot probe)) (counted st) (set cs level (getD cs level 0 + 1)) (set ws slot id) (set fs slot 1))
+    (done (answer.Inserted (insertionOf (st .n) case level slot probe)) (counted st) (addedTo cs level) (set ws slot id) (set fs slot 1))
 
 abbrev pub insertBy : Gated → State → List ℕ → List ℕ → List ℕ → (id : ℕ) → Done
 insertBy (gated.Refused g) st cs ws fs id = done (answer.Refused (refusal.Gate g)) st cs ws fs

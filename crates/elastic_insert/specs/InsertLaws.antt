@@ -38,13 +38,14 @@ use Rattle.elastic_insert.specs.declared.insert.Case.the-variants.{Batch
 use Rattle.elastic_insert.specs.declared.insert.Insertion.{Insertion}
 use Rattle.elastic_insert.specs.declared.insert.InsertRefusal.{InsertRefusal}
 use Rattle.elastic_insert.specs.declared.insert.InsertRefusal.the-variants as refusal
+use Rattle.elastic_insert.specs.declared.insert.InsertAnswer.{InsertAnswer}
 use Rattle.elastic_insert.specs.declared.insert.InsertAnswer.the-variants as answer
 use Rattle.elastic_insert.specs.declared.insert.Chosen.{Chosen}
 use Rattle.elastic_insert.specs.declared.insert.Chosen.the-variants as chosen
 use Rattle.elastic.specs.State.{gateOf, LimitsFacts, Valid, Searching, Pairing, Affordable}
 use Rattle.elastic.specs.Reading.{seekOf, firstOf, Probed, Seekable}
-use Rattle.elastic.specs.ReadingLaws.{probed-few, probed-length, probed-within, Vacancy, seek-vacant, IsFirst, first-is}
-use Rattle.elastic_insert.specs.Insert.{uniformBy, uniformOf, budgetedBy, budgetedOf, freeAt, currentLow, nextLow, pairBy, pairOf, stepsOf, chooseBy, chooseOf, Done, done, counted, takenAt, insertionOf, placeBy, insertBy, insertOf}
+use Rattle.elastic.specs.ReadingLaws.{probed-offset, probed-few, probed-length, probed-within, Vacancy, seek-vacant, IsFirst, first-is}
+use Rattle.elastic_insert.specs.Insert.{uniformBy, uniformOf, budgetedBy, budgetedOf, freeAt, currentLow, nextLow, pairBy, pairOf, stepsOf, chooseBy, chooseOf, Done, done, counted, addedTo, Storable, takenAt, insertionOf, placeBy, insertBy, insertOf}
 
 -- ---- what is asked of the searches
 
@@ -62,6 +63,16 @@ module _ {st : State} {level flags : ℕ} (s : Searching st level flags) where
   pub searching-seekable : (last tries : ℕ) → last ≡ st .plan .levels - 1 → tries ≤ 8192 → Seekable (st .n) last (st .limits .«range_word_cap») level tries flags
   searching-seekable last tries e h = record { probed = searching-probed last e; tries-most = h; size = s .flags-size }
 
+  pub searching-few : level < 32
+  searching-few = probed-few (searching-probed (st .plan .levels - 1) refl)
+
+  -- the length that the code has
+  pub searching-length : (l : ℕ) → l ≡ levelLength (st .plan .levels - 1 - level) (st .n / 2 ^ level) → (l ≡ lengthAt (st .n) level) × (l ≤ 4294967296)
+  searching-length l e =
+      let q = searching-probed (st .plan .levels - 1) refl in
+      let x = probed-length q l e in
+      (x, omega (arith, x, probed-within q, s .config .most))
+
   -- a level before it can be searched too
   pub searching-before : (k : ℕ) → k ≤ level → Searching st k flags
   searching-before k h = record { config = s .config; limits = s .limits; flags-size = s .flags-size; levels-is = s .levels-is; has = omega (arith, s .has) }
@@ -69,27 +80,12 @@ module _ {st : State} {level flags : ℕ} (s : Searching st level flags) where
 pub valid-searching : {st : State} {cs : List ℕ} {words flags : ℕ} → Valid st cs words flags → (level : ℕ) → level < levelsOf (st .n) → Searching st level flags
 valid-searching v level h = record { config = v .config; limits = v .limits; flags-size = v .flags-size; levels-is = v .levels-is; has = h }
 
--- what a pair of levels says of its numbers
-pub record Lengths (st : State) (cs : List ℕ) (current l m : ℕ) : Type 0 where
-  pub here : l ≡ lengthAt (st .n) current
-  pub there : m ≡ lengthAt (st .n) (current + 1)
-  pub room : getD cs current 0 ≤ l
-  pub room-next : getD cs (current + 1) 0 ≤ m
-  pub small : l ≤ 4294967296
-
 module _ {st : State} {cs : List ℕ} {current flags : ℕ} (p : Pairing st cs current flags) where
-  pub pairing-few : current + 1 < 32
-  pairing-few = probed-few (searching-probed (p .search) (st .plan .levels - 1) refl)
-
-  pub pairing-lengths : (l m : ℕ) → l ≡ levelLength (st .plan .levels - 1 - current) (st .n / 2 ^ current) → m ≡ levelLength (st .plan .levels - 1 - (current + 1)) (st .n / 2 ^ (current + 1))
-      → Lengths st cs current l m
-  pairing-lengths l m a b =
-      let s = searching-before (p .search) current (omega arith) in
-      let q = searching-probed s (st .plan .levels - 1) refl in
-      let x = probed-length q l a in
-      let y = probed-length (searching-probed (p .search) (st .plan .levels - 1) refl) m b in
-      let w = probed-within q in
-      record { here = x; there = y; room = rw x (p .within current); room-next = rw y (p .within (current + 1)); small = omega (arith, x, w, s .config .most) }
+  -- what is asked of the room of either level
+  pub pairing-room : (k : ℕ) → k ≤ current + 1 → Searching st k (st .n) × (getD cs k 0 ≤ lengthAt (st .n) k)
+  pairing-room k h =
+      let s = p .search in
+      (record { config = s .config; limits = s .limits; flags-size = refl; levels-is = s .levels-is; has = omega (arith, s .has) }, p .within k)
 
   pub pairing-affordable : (l free : ℕ) → l ≤ 4294967296 → 0 < free → free ≤ l → Affordable free l (st .e) (st .limits .«probe_budget_c»)
   pairing-affordable l free h a b = record { some = a; most = b; small = h; factor-some = p .search .limits .factor-some; factor-most = p .search .limits .factor-most }
@@ -166,35 +162,30 @@ module _ (n key cap : ℕ) (fs : List ℕ) (tries budget : ℕ) (case : Case) (c
 
 -- ---- two levels
 
-module _ (st : State) (key : ℕ) (cs fs : List ℕ) (current l m q : ℕ) (a : l ≡ lengthAt (st .n) current) (b : m ≡ lengthAt (st .n) (current + 1)) (d : q ≡ l / 2 ^ (st .e + 1)) where
-  abbrev free : ℕ
-  free = l - getD cs current 0
-
-  abbrev freeNext : ℕ
-  freeNext = m - getD cs (current + 1) 0
-
-  pub pair-schedule : l - getD cs current 0 ≤ q → m - getD cs (current + 1) 0 ≤ m / 4 → chosen.Refused refusal.Schedule ≡ pairOf st key cs fs current
+module _ (st : State) (key : ℕ) (cs fs : List ℕ) (current l m f g q : ℕ) (a : l ≡ lengthAt (st .n) current) (b : m ≡ lengthAt (st .n) (current + 1))
+    (x : f ≡ freeAt (st .n) cs current) (y : g ≡ freeAt (st .n) cs (current + 1)) (d : q ≡ l / 2 ^ (st .e + 1)) where
+  pub pair-schedule : f ≤ q → g ≤ m / 4 → chosen.Refused refusal.Schedule ≡ pairOf st key cs fs current
   unfolding pairOf pairBy
-  pair-schedule h k = sym (rw (← a, ← b, ← d, le-leb free q h, le-leb freeNext (m / 4) k))
+  pair-schedule h k = sym (rw (← x, ← y, ← a, ← b, ← d, le-leb f q h, le-leb g (m / 4) k))
 
-  pub pair-next : (x : Chosen) → l - getD cs current 0 ≤ q → m / 4 < m - getD cs (current + 1) 0
-      → x ≡ uniformOf (st .n) key (st .limits .«range_word_cap») fs (st .limits .«uniform_search_probe_cap») (Case2 (current + 1) current (current + 1) (l - getD cs current 0) (m - getD cs (current + 1) 0)) (current + 1)
-      → x ≡ pairOf st key cs fs current
+  pub pair-next : (r : Chosen) → f ≤ q → m / 4 < g
+      → r ≡ uniformOf (st .n) key (st .limits .«range_word_cap») fs (st .limits .«uniform_search_probe_cap») (Case2 (current + 1) current (current + 1) f g) (current + 1)
+      → r ≡ pairOf st key cs fs current
   unfolding pairOf pairBy
-  pair-next x h k w = w ∙ sym (rw (← a, ← b, ← d, le-leb free q h, lt-leb freeNext (m / 4) k))
+  pair-next r h k w = w ∙ sym (rw (← x, ← y, ← a, ← b, ← d, le-leb f q h, lt-leb g (m / 4) k))
 
-  pub pair-current : (x : Chosen) → q < l - getD cs current 0 → m - getD cs (current + 1) 0 ≤ m / 4
-      → x ≡ uniformOf (st .n) key (st .limits .«range_word_cap») fs (st .limits .«uniform_search_probe_cap») (Case3 (current + 1) current (current + 1) (l - getD cs current 0) (m - getD cs (current + 1) 0)) current
-      → x ≡ pairOf st key cs fs current
+  pub pair-current : (r : Chosen) → q < f → g ≤ m / 4
+      → r ≡ uniformOf (st .n) key (st .limits .«range_word_cap») fs (st .limits .«uniform_search_probe_cap») (Case3 (current + 1) current (current + 1) f g) current
+      → r ≡ pairOf st key cs fs current
   unfolding pairOf pairBy
-  pair-current x h k w = w ∙ sym (rw (← a, ← b, ← d, lt-leb free q h, le-leb freeNext (m / 4) k))
+  pair-current r h k w = w ∙ sym (rw (← x, ← y, ← a, ← b, ← d, lt-leb f q h, le-leb g (m / 4) k))
 
-  pub pair-neither : (x : Chosen) → q < l - getD cs current 0 → m / 4 < m - getD cs (current + 1) 0
-      → x ≡ budgetedOf (st .n) key (st .limits .«range_word_cap») fs (st .limits .«uniform_search_probe_cap») (probesOf (l - getD cs current 0) l (st .e) (st .limits .«probe_budget_c»))
-      (Case1 (current + 1) current (current + 1) (l - getD cs current 0) (m - getD cs (current + 1) 0) (probesOf (l - getD cs current 0) l (st .e) (st .limits .«probe_budget_c»))) current (current + 1)
-      → x ≡ pairOf st key cs fs current
+  pub pair-neither : (r : Chosen) → q < f → m / 4 < g
+      → r ≡ budgetedOf (st .n) key (st .limits .«range_word_cap») fs (st .limits .«uniform_search_probe_cap») (probesOf f l (st .e) (st .limits .«probe_budget_c»))
+      (Case1 (current + 1) current (current + 1) f g (probesOf f l (st .e) (st .limits .«probe_budget_c»))) current (current + 1)
+      → r ≡ pairOf st key cs fs current
   unfolding pairOf pairBy
-  pair-neither x h k w = w ∙ sym (rw (← a, ← b, ← d, lt-leb free q h, lt-leb freeNext (m / 4) k))
+  pair-neither r h k w = w ∙ sym (rw (← x, ← y, ← a, ← b, ← d, lt-leb f q h, lt-leb g (m / 4) k))
 
 -- ---- the batch
 
@@ -238,6 +229,20 @@ pub record Taken (st : State) (fs : List ℕ) (level slot : ℕ) (probe : Logica
   pub below : slot < st .n
   pub vacant : getD fs slot 0 ≡ 0
   pub in-time : probe .0 < 8192
+
+-- what is asked where it is taken
+module _ {st : State} {cs fs : List ℕ} {words flags level slot : ℕ} {probe : LogicalProbe} (v : Valid st cs words flags) (t : Taken st fs level slot probe) where
+  taken-probed : Probed (st .n) (st .plan .levels - 1) (st .limits .«range_word_cap») level
+  taken-probed = searching-probed (valid-searching v level (t .has)) (st .plan .levels - 1) refl
+
+  pub taken-storable : Storable cs level
+  taken-storable = record { few = t .few; low = omega (arith, v .within level, probed-within taken-probed, v .config .most) }
+
+  pub taken-offset : st .n - st .n / 2 ^ level ≡ offsetAt (st .n) level
+  taken-offset = probed-offset taken-probed (st .n - st .n / 2 ^ level) refl
+
+  pub taken-asked : (st .n - st .n / 2 ^ level ≤ slot) × (probe .0 < 8192) × (st .count ≤ 4294967296)
+  taken-asked = (omega (arith, taken-offset, t .from), t .in-time, omega (arith, v .count-most, v .config .most))
 
 -- a pair of levels, by the one that is searched
 pair-cases : {A : Type 0} (x y : Bool) (both here there neither r : Chosen) → pairBy x y both here there neither ≡ r
@@ -350,10 +355,10 @@ module _ (st : State) (cs ws fs : List ℕ) (id : ℕ) (x : Chosen) (e : x ≡ c
     place-position l = sym (rw (← e, h, ← is, lt-ltb (st .limits .«hit_query_position_cap») p l))
 
     pub place-inserted : (o : ℕ) → p ≤ st .limits .«hit_query_position_cap» → o ≡ offsetAt (st .n) level
-        → done (answer.Inserted (takenAt case level slot o probe p)) (counted st) (set cs level (getD cs level 0 + 1)) (set ws slot id) (set fs slot 1)
-        ≡ placeBy st cs ws fs id (chooseOf st cs ws fs id)
+        → {a : InsertAnswer} {st' : State} {cs' ws' fs' : List ℕ} → a ≡ answer.Inserted (takenAt case level slot o probe p) → st' ≡ counted st
+        → cs' ≡ addedTo cs level → ws' ≡ set ws slot id → fs' ≡ set fs slot 1 → done a st' cs' ws' fs' ≡ placeBy st cs ws fs id (chooseOf st cs ws fs id)
     unfolding placeBy
-    place-inserted o l d = sym (rw (← e, h, ← is, le-ltb (st .limits .«hit_query_position_cap») p l, ← d))
+    place-inserted o l d ea es ec ew ef = rw (ea, es, ec, ew, ef) (sym (rw (← e, h, ← is, le-ltb (st .limits .«hit_query_position_cap») p l, ← d)))
 
 module _ (st : State) (cs ws fs : List ℕ) (id : ℕ) where
   pub insert-gate : (g : Gate) → gateOf st cs (length ws) (length fs) ≡ gated.Refused g → done (answer.Refused (refusal.Gate g)) st cs ws fs ≡ insertOf st cs ws fs id

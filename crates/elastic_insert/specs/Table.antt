@@ -17,14 +17,14 @@ use Rattle.elastic_insert.specs.declared.insert.InsertAnswer.{InsertAnsw
 use Rattle.elastic_insert.specs.declared.insert.InsertAnswer.the-variants as answer
 use Rattle.elastic.specs.State.{opened, openOf}
 use Rattle.elastic.specs.Reading.{vacantAt}
-use Rattle.elastic_insert.specs.Insert.{Done, done, counted, insertionOf, insertOf}
+use Rattle.elastic_insert.specs.Insert.{Done, done, counted, addedTo, insertionOf, insertOf}
 
 -- nothing, or one slot, one level count and the count
 pub data Changes (st : State) (cs ws fs : List ℕ) (id : ℕ) : Done → Type 0 where
   none : (r : InsertRefusal) → Changes st cs ws fs id (done (answer.Refused r) st cs ws fs)
   one : (case : Case) (level slot : ℕ) (probe : LogicalProbe) → level < levelsOf (st .n) → offsetAt (st .n) level ≤ slot → slot < offsetAt (st .n) level + lengthAt (st .n) level → getD fs slot 0 ≡ 0
       → phi (level + 1) (probe .0 + 1) ≤ st .limits .«hit_query_position_cap»
-      → Changes st cs ws fs id (done (answer.Inserted (insertionOf (st .n) case level slot probe)) (counted st) (set cs level (getD cs level 0 + 1)) (set ws slot id) (set fs slot 1))
+      → Changes st cs ws fs id (done (answer.Inserted (insertionOf (st .n) case level slot probe)) (counted st) (addedTo cs level) (set ws slot id) (set fs slot 1))
 
 -- the occupied ones of so many flags from one on
 unfoldable pub occupied : List ℕ → (from size : ℕ) → ℕ

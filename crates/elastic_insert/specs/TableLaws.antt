@@ -10,6 +10,7 @@ use lib.Dec.{eqb, ltb}
 use lib.ListN.{length, getD, set, replicate, length-set, length-replicate, getD-replicate}
 use lib.Seq.{getD-set-same, getD-set-other}
 use borrow.Author.Tests.{eq-eqb, ne-eqb, eqb-true, eqb-false, ltb-false}
+use Rattle.words.specs.BytesLaws.{getD-zeros}
 use Rattle.words.specs.declared.place.LogicalProbe.{LogicalProbe}
 use Rattle.words.specs.Pick.{pick}
 use Rattle.geometry.specs.declared.config.Gated.{Gated}
@@ -32,7 +33,7 @@ use Rattle.elastic_insert.specs.declared.insert.Chosen.the-variants as c
 use Rattle.elastic.specs.State.{gateOf, openGate, OpenDone, opened, openBy, openOf, freshOf, Valid}
 use Rattle.elastic.specs.StateLaws.{gate-valid, open-facts}
 use Rattle.elastic.specs.Reading.{vacantAt}
-use Rattle.elastic_insert.specs.Insert.{chooseOf, Done, done, counted, insertionOf, placeBy, insertBy, insertOf}
+use Rattle.elastic_insert.specs.Insert.{chooseOf, Done, done, counted, addedTo, insertionOf, placeBy, insertBy, insertOf}
 use Rattle.elastic_insert.specs.InsertLaws.{Taken, choose-taken}
 use Rattle.elastic_insert.specs.Table.{Changes, none, one, occupied, Counted, Reached, fresh, more}
 
@@ -44,7 +45,7 @@ insert-changes st cs ws fs id = go (gateOf st cs (length ws) (length fs)) refl
   where
     by : (case : Case) (level slot : ℕ) (probe : LogicalProbe) → Taken st fs level slot probe → (x : Bool) → ltb (st .limits .«hit_query_position_cap») (phi (level + 1) (probe .0 + 1)) ≡ x
         → Changes st cs ws fs id (pick x (done (answer.Refused refusal.Position) st cs ws fs)
-        (done (answer.Inserted (insertionOf (st .n) case level slot probe)) (counted st) (set cs level (getD cs level 0 + 1)) (set ws slot id) (set fs slot 1)))
+        (done (answer.Inserted (insertionOf (st .n) case level slot probe)) (counted st) (addedTo cs level) (set ws slot id) (set fs slot 1)))
     by case level slot probe t true e = none refusal.Position
     by case level slot probe t false e = one case level slot probe (t .has) (t .from) (t .to) (t .vacant) (ltb-false _ _ e)
 
@@ -91,12 +92,7 @@ occupied-more fs s from (suc size) l v a b = go (eqb from s) refl (λ d. occupie
 occupied-none : (n from size : ℕ) → occupied (replicate n 0) from size ≡ 0
 unfolding occupied
 occupied-none n from zero = refl
-occupied-none n from (suc size) = rw (zeros n from, occupied-none n (from + 1) size)
-  where
-    zeros : (n i : ℕ) → getD {A = ℕ} (replicate n 0) i 0 ≡ 0
-    zeros zero i = refl
-    zeros (suc n) zero = refl
-    zeros (suc n) (suc i) = zeros n i
+occupied-none n from (suc size) = rw (getD-zeros n from, occupied-none n (from + 1) size)
 
 -- ---- sums
 
@@ -138,17 +134,12 @@ counted-fresh n e seed limits =
       size = length-replicate {A = ℕ} 32 0;
       flags-size = length-replicate {A = ℕ} n 0;
       sums = total-zeros 32;
-      levels = λ k h. zeros 32 k ∙ sym (occupied-none n (offsetAt n k) (lengthAt n k));
+      levels = λ k h. getD-zeros 32 k ∙ sym (occupied-none n (offsetAt n k) (lengthAt n k));
     }
-  where
-    zeros : (n i : ℕ) → getD {A = ℕ} (replicate n 0) i 0 ≡ 0
-    zeros zero i = refl
-    zeros (suc n) zero = refl
-    zeros (suc n) (suc i) = zeros n i
 
 module _ (st : State) (cs ws fs : List ℕ) (id : ℕ) (k : Counted st cs fs) (few : levelsOf (st .n) ≤ 32) (within : (l : ℕ) → l < levelsOf (st .n) → offsetAt (st .n) l + lengthAt (st .n) l ≤ st .n) where
   counted-one : (level slot : ℕ) → level < levelsOf (st .n) → offsetAt (st .n) level ≤ slot → slot < offsetAt (st .n) level + lengthAt (st .n) level → getD fs slot 0 ≡ 0
-      → Counted (counted st) (set cs level (getD cs level 0 + 1)) (set fs slot 1)
+      → Counted (counted st) (addedTo cs level) (set fs slot 1)
   counted-one level slot has from to vacant =
       record {
         size = simp length-set (k .size);
@@ -158,7 +149,7 @@ module _ (st : State) (cs ws fs : List ℕ) (id : ℕ) (k : Counted st cs fs) (f
       }
     where
       at-level : (l : ℕ) → l < levelsOf (st .n) → (x : Bool) → eqb l level ≡ x
-          → getD (set cs level (getD cs level 0 + 1)) l 0 ≡ occupied (set fs slot 1) (offsetAt (st .n) l) (lengthAt (st .n) l)
+          → getD (addedTo cs level) l 0 ≡ occupied (set fs slot 1) (offsetAt (st .n) l) (lengthAt (st .n) l)
       at-level l h true e =
           let q : l ≡ level = eqb-true l level e in
           let w = within level has in

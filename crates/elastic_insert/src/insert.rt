@@ -1,12 +1,14 @@
 // The insertion: which levels are searched, and what is written.
 ghost use mathlib.Core.Path.{_≡_};
 ghost use mathlib.Core.List.{List};
-ghost use Prim.Native.Nat.{ℕ, _+_, _-_, _*_, _<_, _≤_};
+ghost use Prim.Native.Nat.{ℕ, _+_, _-_, _*_, _/_, _^_, _<_, _≤_};
 ghost use lib.ListN.{length, getD, set};
 ghost use Rattle.probe.specs.Phi.{phi};
 ghost use Rattle.elastic.specs.State.{Valid, Searching, Pairing, Affordable};
+ghost use Rattle.elastic.specs.Reading.{seekOf};
 ghost use Rattle.elastic_insert.specs.declared.insert.Case.the-variants.{Case1};
-ghost use Rattle.elastic_insert.specs.Insert.{done, takenAt, insertOf, placeBy, chooseOf, stepsOf, pairOf, uniformOf, budgetedOf};
+ghost use Rattle.elastic_insert.specs.declared.insert.InsertAnswer.the-variants as answer;
+ghost use Rattle.elastic_insert.specs.Insert.{done, counted, addedTo, freeAt, Storable, takenAt, insertOf, placeBy, chooseOf, stepsOf, pairOf, uniformOf, budgetedOf};
 ghost use Rattle.geometry.specs.Elastic.{levelsOf, lengthAt};
 ghost use Rattle.probe.specs.Budget.{probesOf};
 use elastic::route::Located;
@@ -164,24 +166,54 @@ pub fn place(
                     st,
                 };
             }
-            let offset = level_offset(st.n, level);
-            let members = counts[level as usize];
-            counts[level as usize] = members + 1;
-            words[slot as usize] = identity;
-            flags[slot as usize] = 1;
-            let mut next = st;
-            next.count = st.count + 1;
-            let insertion = insertion_of(case, level, slot, offset, probe, position);
-            return Inserted {
-                answer: InsertAnswer::Inserted(insertion),
-                st: next,
-            };
+            store(counts, words, flags, level, slot, identity);
+            return taken(st, case, level, slot, probe, position);
         }
     }
 }
 
+// The identity into a slot, and one member more in its level.
+fn store(
+    counts: &mut [u64; 32],
+    words: &mut [u64],
+    flags: &mut [u8],
+    level: u64,
+    slot: u64,
+    identity: u64,
+)
+    requires { ⌜ Storable (now counts) level × (slot < length (now words)) × (slot < length (now flags)) ⌝ }
+    ensures { λ r. ⌜ (now (counts .exit) ≡ addedTo (now (counts .entry)) level) × (now (words .exit) ≡ set (now (words .entry)) slot identity) × (now (flags .exit) ≡ set (now (flags .entry)) slot 1) ⌝ }
+{
+    let members = counts[level as usize];
+    counts[level as usize] = members + 1;
+    words[slot as usize] = identity;
+    flags[slot as usize] = 1;
+}
+
+// The answer of a slot that was taken, and the state with one member more.
+pub fn taken(
+    st: State,
+    case: Case,
+    level: u64,
+    slot: u64,
+    probe: LogicalProbe,
+    position: u64,
+) -> Inserted
+    requires { ⌜ (st .n - st .n / 2 ^ level ≤ slot) × (probe .0 < 8192) × (st .count ≤ 4294967296) ⌝ }
+    ensures { λ r. ⌜ (r .answer ≡ answer.Inserted (takenAt case level slot (st .n - st .n / 2 ^ level) probe position)) × (r .st ≡ counted st) ⌝ }
+{
+    let offset = level_offset(st.n, level);
+    let insertion = insertion_of(case, level, slot, offset, probe, position);
+    let mut next = st;
+    next.count = st.count + 1;
+    Inserted {
+        answer: InsertAnswer::Inserted(insertion),
+        st: next,
+    }
+}
+
 // What is answered of a slot that was taken, in a level that starts at `offset`.
-pub fn insertion_of(
+fn insertion_of(
     case: Case,
     level: u64,
     slot: u64,
@@ -255,12 +287,8 @@ fn uniform(st: State, key: u64, flags: &[u8], case: Case, level: u64) -> Chosen
     requires { ⌜ Searching st level (length (now flags)) ⌝ }
     ensures { λ r. ⌜ r ≡ uniformOf (st .n) key (st .limits .«range_word_cap») (now (flags .entry)) (st .limits .«uniform_search_probe_cap») case level ⌝ }
 {
-    let plan = st.plan;
     let limits = st.limits;
-    let last = plan.levels - 1;
-    let cap = limits.range_word_cap;
-    let tries = limits.uniform_search_probe_cap;
-    match seek(key, st.n, last, cap, flags, level, tries) {
+    match seek_level(st, key, flags, level, limits.uniform_search_probe_cap) {
         Sought::Vacant { slot, probe } => {
             return Chosen::Slot {
                 case,
@@ -278,24 +306,32 @@ fn uniform(st: State, key: u64, flags: &[u8], case: Case, level: u64) -> Chosen
     }
 }
 
+// The search of a level with so many tries.
+fn seek_level(st: State, key: u64, flags: &[u8], level: u64, tries: u64) -> Sought
+    requires { ⌜ Searching st level (length (now flags)) × (tries ≤ 8192) ⌝ }
+    ensures { λ r. ⌜ r ≡ seekOf (st .n) key (st .limits .«range_word_cap») (now (flags .entry)) level tries ⌝ }
+{
+    let plan = st.plan;
+    let limits = st.limits;
+    let last = plan.levels - 1;
+    seek(key, st.n, last, limits.range_word_cap, flags, level, tries)
+}
+
 // The steps of a batch with two levels, by which of them are low.
 fn pair(st: State, key: u64, counts: &[u64; 32], flags: &[u8], current: u64) -> Chosen
     requires { ⌜ Pairing st (now counts) current (length (now flags)) ⌝ }
     ensures { λ r. ⌜ r ≡ pairOf st key (now (counts .entry)) (now (flags .entry)) current ⌝ }
 {
-    let n = st.n;
-    let plan = st.plan;
-    let last = plan.levels - 1;
     let next = current + 1;
-    let size = level_length(n, last, current);
-    let next_size = level_length(n, last, next);
-    let members = counts[current as usize];
-    let next_members = counts[next as usize];
-    let free = size - members;
-    let next_free = next_size - next_members;
+    let here = room_of(st, counts, current);
+    let there = room_of(st, counts, next);
+    let size = here.size;
+    let free = here.free;
+    let next_free = there.free;
     let reserve = floor_div_pow2(size, st.e as u64 + 1);
+    let next_reserve = there.size / 4;
     if free <= reserve {
-        if next_free <= next_size / 4 {
+        if next_free <= next_reserve {
             return Chosen::Refused(InsertRefusal::Schedule);
         }
         let case = Case::Case2 {
@@ -307,7 +343,7 @@ fn pair(st: State, key: u64, counts: &[u64; 32], flags: &[u8], current: u64) -> 
         };
         return uniform(st, key, flags, case, next);
     }
-    if next_free <= next_size / 4 {
+    if next_free <= next_reserve {
         let case = Case::Case3 {
             batch: next,
             current_level: current,
@@ -318,6 +354,25 @@ fn pair(st: State, key: u64, counts: &[u64; 32], flags: &[u8], current: u64) -> 
         return uniform(st, key, flags, case, current);
     }
     budgeted(st, key, flags, current, size, free, next_free)
+}
+
+// The slots of a level, and how many of them are not counted as taken.
+struct Room {
+    size: u64,
+    free: u64,
+}
+
+fn room_of(st: State, counts: &[u64; 32], level: u64) -> Room
+    requires { ⌜ Searching st level (st .n) × (getD (now counts) level 0 ≤ lengthAt (st .n) level) ⌝ }
+    ensures { λ r. ⌜ (r .size ≡ lengthAt (st .n) level) × (r .free ≡ freeAt (st .n) (now (counts .entry)) level) × (r .size ≤ 4294967296) ⌝ }
+{
+    let plan = st.plan;
+    let size = level_length(st.n, plan.levels - 1, level);
+    let members = counts[level as usize];
+    Room {
+        size,
+        free: size - members,
+    }
 }
 
 // Neither is low: as many probes of the current level as the budget allows, then the next level uniformly.
@@ -333,12 +388,8 @@ fn budgeted(
     requires { ⌜ Searching st (current + 1) (length (now flags)) × Affordable free size (st .e) (st .limits .«probe_budget_c») ⌝ }
     ensures { λ r. ⌜ r ≡ budgetedOf (st .n) key (st .limits .«range_word_cap») (now (flags .entry)) (st .limits .«uniform_search_probe_cap») (probesOf free size (st .e) (st .limits .«probe_budget_c»)) (Case1 (current + 1) current (current + 1) free «next_free» (probesOf free size (st .e) (st .limits .«probe_budget_c»))) current (current + 1) ⌝ }
 {
-    let n = st.n;
-    let plan = st.plan;
     let limits = st.limits;
-    let last = plan.levels - 1;
     let next = current + 1;
-    let cap = limits.range_word_cap;
     let probes = probes_of(free, size, st.e as u64, limits.probe_budget_c);
     let case = Case::Case1 {
         batch: next,
@@ -348,7 +399,15 @@ fn budgeted(
         free_next: next_free,
         budget: probes,
     };
-    match seek(key, n, last, cap, flags, current, probes) {
+    then_next(st, key, flags, case, current, probes)
+}
+
+// So many probes of a level, then the next one uniformly.
+fn then_next(st: State, key: u64, flags: &[u8], case: Case, current: u64, probes: u64) -> Chosen
+    requires { ⌜ Searching st (current + 1) (length (now flags)) × (probes ≤ 8192) ⌝ }
+    ensures { λ r. ⌜ r ≡ budgetedOf (st .n) key (st .limits .«range_word_cap») (now (flags .entry)) (st .limits .«uniform_search_probe_cap») probes case current (current + 1) ⌝ }
+{
+    match seek_level(st, key, flags, current, probes) {
         Sought::Vacant { slot, probe } => {
             return Chosen::Slot {
                 case,
@@ -358,7 +417,7 @@ fn budgeted(
             };
         }
         Sought::Passed => {
-            return uniform(st, key, flags, case, next);
+            return uniform(st, key, flags, case, current + 1);
         }
         Sought::Refused(refusal) => {
             return Chosen::Refused(InsertRefusal::Range(refusal));

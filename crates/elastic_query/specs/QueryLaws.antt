@@ -33,7 +33,7 @@ use Rattle.elastic_query.specs.declared.query.Scan.the-variants as scan
 use Rattle.elastic.specs.State.{gateOf, Valid}
 use Rattle.elastic.specs.Reading.{readingOf, holdsAt, Probed}
 use Rattle.elastic_query.specs.Query.{within, foundAt, Tally, nothing, counted, walkBy, walkOf, positionsOf, queryBy, queryOf}
-use Rattle.elastic_query.specs.QuerySteps.{upTo, from, charged, Missed, Fine, scanTold, scanFine, Scanned, Queried, Scanning}
+use Rattle.elastic_query.specs.QuerySteps.{upTo, from, charged, Missed, Fine, scanTold, scanFine, Scanned, Queried, Scanning, Visiting, endOf}
 
 -- ---- the walk, position by position
 
@@ -108,6 +108,29 @@ module _ (route : ℕ → ℕ → Reading) (holds : ℕ → Bool) (levels cap : 
       from-hit n =
           let g : p - 1 - m ≡ p - (m + 1) = omega arith in
           rw (one-more p l, e, is, n, g)
+
+  -- a visit of a mapped position
+  module _ (p i j m w : ℕ) (v : Visiting levels cap p i j m w) where
+    pub visit-refused : (r : RangeRefusal) → route (i - 1) (j - 1) ≡ reading.Refused r
+        → Scanned (from route holds levels cap p m w) (scan.Ends (answer.Range r)) (λ m w. from route holds levels cap (p + 1) m w) (p + 1)
+    visit-refused r n = record { same = from-refused p m w i j (v .near) (v .fine .few) (v .is) r n; fine = tt }
+
+    module _ (slot words extra : ℕ) (is : route (i - 1) (j - 1) ≡ reading.Slot slot words) (x : extra ≡ charged i j words) where
+      pub visit-hit : holds slot ≡ true
+          → Scanned (from route holds levels cap p m w)
+          (scan.Ends (answer.Found (record { position = p; «global_slot» = record { 0 = slot }; mapped = m + 1; gap = p - (m + 1); words = w + extra })))
+          (λ m w. from route holds levels cap (p + 1) m w)
+          (p + 1)
+      visit-hit n = record { same = rw x (from-hit p m w i j (v .near) (v .fine .few) (v .is) slot words is n); fine = tt }
+
+      pub visit-miss : extra ≤ 8 → holds slot ≡ false
+          → Scanned (from route holds levels cap p m w) (scan.On (m + 1) (w + extra)) (λ m w. from route holds levels cap (p + 1) m w) (p + 1)
+      visit-miss few n =
+          let f = v .fine in
+          record {
+            same = rw x (from-miss p m w i j (v .near) (v .fine .few) (v .is) slot words is n);
+            fine = record { few = omega (arith, f .few); low = let o = f .low in omega arith };
+          }
 
   -- the first position is a gap
   module _ (l : 0 < cap) where
@@ -227,38 +250,7 @@ module _ (route : ℕ → ℕ → Reading) (holds : ℕ → Bool) (levels cap b 
       }
 
   module _ (i m w : ℕ) (g : Going route holds levels cap b q m₀ w₀ i m w) where
-    module _ (hi : i < 2 * (q / 4)) (some : i ≤ levels) (up : b + i ≤ cap) where
-      at-i : within levels (coordsOf (b + i)) ≡ at i j
-      at-i = has-i route holds levels cap b j q n i (g .lo) hi some
-
-      pub going-refused : (r : RangeRefusal) → route (i - 1) (j - 1) ≡ reading.Refused r
-          → Scanned (from route holds levels cap b m₀ w₀) (scan.Refused r) (λ m w. from route holds levels cap (b + 2 * (q / 4)) m w) (b + 2 * (q / 4))
-      going-refused r e = record { same = g .same ∙ from-refused route holds levels cap (b + i) m w i j up (g .fine .few) at-i r e; fine = tt }
-
-      module _ (slot words extra : ℕ) (is : route (i - 1) (j - 1) ≡ reading.Slot slot words) (x : extra ≡ charged i j words) where
-        pub going-hit : holds slot ≡ true
-            → Scanned (from route holds levels cap b m₀ w₀) (scan.Hit (b + i) slot (m + 1) (w + extra)) (λ m w. from route holds levels cap (b + 2 * (q / 4)) m w) (b + 2 * (q / 4))
-        going-hit d =
-            record {
-              same = g .same ∙ from-hit route holds levels cap (b + i) m w i j up (g .fine .few) at-i slot words is d
-                  ∙ ap (λ (c : ℕ). answer.Found (record { position = b + i; «global_slot» = record { 0 = slot }; mapped = m + 1; gap = b + i - (m + 1); words = w + c })) (sym x);
-              fine = let f = g .fine .few in omega arith;
-            }
-
-        pub going-miss : extra ≤ 8 → holds slot ≡ false → Going route holds levels cap b q m₀ w₀ (i + 1) (m + 1) (w + extra)
-        going-miss few d =
-            let e : b + i + 1 ≡ b + (i + 1) = omega arith in
-            let f = g .fine in
-            record {
-              same = g .same ∙ from-miss route holds levels cap (b + i) m w i j up (g .fine .few) at-i slot words is d
-                  ∙ ap (λ (c : ℕ). from route holds levels cap (b + i + 1) (m + 1) (w + c)) (sym x)
-                  ∙ ap (λ (p : ℕ). from route holds levels cap p (m + 1) (w + extra)) e;
-              lo = omega (arith, g .lo);
-              hi = omega arith;
-              fine = record { few = omega (arith, f .few); low = let o = f .low in omega arith };
-            }
-
-    pub going-end : Missed route holds 0 0 → min (min (2 * (q / 4)) (levels + 1)) (cap - b + 1) ≤ i → b ≤ cap
+    pub going-end : Missed route holds 0 0 → endOf levels cap b q ≤ i → b ≤ cap
         → Scanned (from route holds levels cap b m₀ w₀) (scan.On m w) (λ m w. from route holds levels cap (b + 2 * (q / 4)) m w) (b + 2 * (q / 4))
     going-end miss l near =
         let u = g .hi in
@@ -278,38 +270,54 @@ module _ (route : ℕ → ℕ → Reading) (holds : ℕ → Bool) (levels cap b 
             from-end route holds levels cap (b + i) m w (omega arith)
             ∙ sym (from-end route holds levels cap (b + 2 * (q / 4)) m w (omega arith))
 
+-- a visit of the position where i is tried
+module _ {route : ℕ → ℕ → Reading} {holds : ℕ → Bool} {levels cap b q m₀ w₀ i m w : ℕ} (g : Going route holds levels cap b q m₀ w₀ i m w) (r : Scan)
+    (z : Scanned (from route holds levels cap (b + i) m w) r (λ m w. from route holds levels cap (b + i + 1) m w) (b + i + 1))
+  where
+    pub going-ends : (a : QueryAnswer) → r ≡ scan.Ends a
+        → Scanned (from route holds levels cap b m₀ w₀) (scan.Ends a) (λ m w. from route holds levels cap (b + 2 * (q / 4)) m w) (b + 2 * (q / 4))
+    going-ends a e = record { same = g .same ∙ z .same ∙ rw e; fine = tt }
+
+    pub going-on : (x y : ℕ) → r ≡ scan.On x y → i < 2 * (q / 4) → Going route holds levels cap b q m₀ w₀ (i + 1) x y
+    going-on x y e hi =
+        let s : b + i + 1 ≡ b + (i + 1) = omega arith in
+        let f : Fine (b + i + 1) x y = rw e at (z .fine) in
+        let d : from route holds levels cap (b + i) m w ≡ from route holds levels cap (b + i + 1) x y = z .same ∙ rw e in
+        record {
+          same = g .same ∙ d ∙ ap (λ (p : ℕ). from route holds levels cap p x y) s;
+          lo = omega (arith, g .lo);
+          hi = omega arith;
+          fine = record { few = omega (arith, f .few); low = omega (arith, f .low) };
+        }
+
 -- a level and a probe that a mapped position has, in a table that can be queried
 pub queried-probed : {n last wordCap cap words flags : ℕ} → Queried n last wordCap cap words flags → (level : ℕ) → level ≤ last → Probed n last wordCap level
 queried-probed k level h = record { least = k .least; most = k .most; last-is = k .last-is; has = h; few = k .few }
 
 -- the loop's invariant
-pub record Turn (route : ℕ → ℕ → Reading) (holds : ℕ → Bool) (levels cap b j q m₀ w₀ end i m w : ℕ) : Type 0 where
+pub record Turn (route : ℕ → ℕ → Reading) (holds : ℕ → Bool) (levels cap b q m₀ w₀ end i m w : ℕ) : Type 0 where
   pub going : Going route holds levels cap b q m₀ w₀ i m w
-  pub stop : end ≡ min (min (2 * (q / 4)) (levels + 1)) (cap - b + 1)
+  pub stop : end ≡ endOf levels cap b q
 
--- what a turn of the loop may use
-pub record Turning (levels cap b j q i : ℕ) : Type 0 where
-  pub pos : 0 < i
-  pub hi : i < 2 * (q / 4)
-  pub some : i ≤ levels
-  pub up : b + i ≤ cap
-  pub probe-pos : 0 < j
-  pub probe : j ≤ 8192
+module _ {route : ℕ → ℕ → Reading} {holds : ℕ → Bool} {levels cap b q m₀ w₀ end i m w : ℕ} (t : Turn route holds levels cap b q m₀ w₀ end i m w) (l : i < end) where
+  pub turn-below : i < 2 * (q / 4)
+  turn-below = let s = t .stop in omega arith
 
-pub turning : {route : ℕ → ℕ → Reading} {holds : ℕ → Bool} {levels cap b j q m₀ w₀ end i m w : ℕ} → Turn route holds levels cap b j q m₀ w₀ end i m w
-    → Node b j q → b ≤ cap → cap ≤ 984263340 → i < end → Turning levels cap b j q i
-turning {route} {holds} {levels} {cap} {b} {j} {q} {m₀} {w₀} {end} {i} {m} {w} t n near far l =
-    let s = t .stop in
-    let lo = t .going .lo in
-    let four : 4 ≤ q = omega arith in
-    record {
-      pos = omega arith;
-      hi = omega arith;
-      some = omega arith;
-      up = omega arith;
-      probe-pos = node-pos b j q n;
-      probe = node-probe b j q n four (omega arith);
-    }
+  pub turn-visiting : {j : ℕ} → Scanning route holds cap b j q m₀ w₀ → cap ≤ 984263340 → Visiting levels cap (b + i) i j m w
+  turn-visiting {j} k far =
+      let s = t .stop in
+      let lo = t .going .lo in
+      let near = k .near in
+      let four : 4 ≤ q = omega arith in
+      record {
+        is = has-i route holds levels cap b j q (k .node) i lo (omega arith) (omega arith);
+        level-pos = omega arith;
+        level = omega arith;
+        probe-pos = node-pos b j q (k .node);
+        probe = node-probe b j q (k .node) four (omega arith);
+        near = omega arith;
+        fine = t .going .fine;
+      }
 
 -- ---- the walk from node to node, as a loop makes it
 
@@ -330,15 +338,8 @@ module _ (route : ℕ → ℕ → Reading) (holds : ℕ → Bool) (levels cap sp
     walked-scanning miss l = record { node = k .node; miss = miss; near = l; fine = k .fine }
 
     module _ (r : Scan) (z : Scanned (from route holds levels cap b m w) r (λ m w. from route holds levels cap (b + 2 * (q / 4)) m w) (b + 2 * (q / 4))) where
-      pub walked-hit : (p s x y : ℕ) → r ≡ scan.Hit p s x y
-          → answer.Found (record { position = p; «global_slot» = record { 0 = s }; mapped = x; gap = p - x; words = y }) ≡ from route holds levels cap 3 0 spent
-      walked-hit p s x y e = sym (k .rest ∙ z .same ∙ rw e)
-
-      pub walked-refused : (x : RangeRefusal) → r ≡ scan.Refused x → answer.Range x ≡ from route holds levels cap 3 0 spent
-      walked-refused x e = sym (k .rest ∙ z .same ∙ rw e)
-
-      pub hit-fits : (p s x y : ℕ) → r ≡ scan.Hit p s x y → x ≤ p
-      hit-fits p s x y e = rw e at (z .fine)
+      pub walked-ends : (a : QueryAnswer) → r ≡ scan.Ends a → a ≡ from route holds levels cap 3 0 spent
+      walked-ends a e = sym (k .rest ∙ z .same ∙ rw e)
 
       pub walked-on : (x y b' j' q' : ℕ) → Missed route holds 0 0 → r ≡ scan.On x y → Next (b + 2 * (q / 4)) b' j' q' → Walked route holds levels cap spent b' j' q' x y
       walked-on x y b' j' q' miss e n =

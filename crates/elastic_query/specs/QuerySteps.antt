@@ -1,10 +1,11 @@
 -- The query by mapped positions alone: what its steps say. Assumes nothing.
 use mathlib.Core.Bool.{Bool, true, false}
 use mathlib.Core.Path.{_≡_}
-use Prim.Native.Nat.{ℕ, _+_, _-_, _*_, _/_, _≤_, _<_}
+use Prim.Native.Nat.{ℕ, _+_, _-_, _*_, _/_, _≤_, _<_, min}
 use lib.Dec.{eqb}
 use Rattle.words.specs.Pick.{pick}
 use Rattle.geometry.specs.Elastic.{levelsOf}
+use Rattle.probe.specs.Phi.{Coords, at, coordsOf}
 use Rattle.probe.specs.TreeLaws.{Node}
 use Rattle.elastic.specs.declared.route.Reading.{Reading}
 use Rattle.elastic.specs.declared.route.Reading.the-variants as reading
@@ -12,7 +13,7 @@ use Rattle.elastic_query.specs.declared.query.QueryAnswer.{QueryAnswer}
 use Rattle.elastic_query.specs.declared.query.QueryAnswer.the-variants as answer
 use Rattle.elastic_query.specs.declared.query.Scan.{Scan}
 use Rattle.elastic_query.specs.declared.query.Scan.the-variants as scan
-use Rattle.elastic_query.specs.Query.{Tally, walkOf}
+use Rattle.elastic_query.specs.Query.{Tally, within, walkOf}
 
 -- what was counted when position p is next and level 0 probe 0 was read: each position before is mapped or a gap
 abbrev pub upTo : (p mapped words : ℕ) → Tally
@@ -38,16 +39,14 @@ pub record Fine (p mapped words : ℕ) : Type 0 where
   pub few : mapped < p
   pub low : words ≤ 8 * p
 
--- a scan of a node ends the walk, or it goes on with the counts
+-- a scan ends the walk with its answer, or the walk goes on with the counts
 abbrev pub scanTold : Scan → (ℕ → ℕ → QueryAnswer) → QueryAnswer
-scanTold (scan.Hit p s m w) rest = answer.Found (record { position = p; «global_slot» = record { 0 = s }; mapped = m; gap = p - m; words = w })
+scanTold (scan.Ends a) rest = a
 scanTold (scan.On m w) rest = rest m w
-scanTold (scan.Refused r) rest = answer.Range r
 
 abbrev pub scanFine : Scan → ℕ → Type 0
-scanFine (scan.Hit p s m w) e = m ≤ p
+scanFine (scan.Ends a) e = Unit {0}
 scanFine (scan.On m w) e = Fine e m w
-scanFine (scan.Refused r) e = Unit {0}
 
 -- what a scan says of the walk before it, with the walk after it
 pub record Scanned (old : QueryAnswer) (r : Scan) (rest : ℕ → ℕ → QueryAnswer) (e : ℕ) : Type 0 where
@@ -71,3 +70,17 @@ pub record Scanning (route : ℕ → ℕ → Reading) (holds : ℕ → Bool) (ca
   pub miss : Missed route holds 0 0
   pub near : b ≤ cap
   pub fine : Fine b mapped words
+
+-- what a visit of position p asks: it is probe j of level i, both from 1
+pub record Visiting (levels cap p i j mapped words : ℕ) : Type 0 where
+  pub is : within levels (coordsOf p) ≡ at i j
+  pub level-pos : 0 < i
+  pub level : i ≤ levels
+  pub probe-pos : 0 < j
+  pub probe : j ≤ 8192
+  pub near : p ≤ cap
+  pub fine : Fine p mapped words
+
+-- where the mapped positions of a node end, by i: at its middle, past the last level, or at the cap
+abbrev pub endOf : (levels cap b q : ℕ) → ℕ
+endOf levels cap b q = min (min (2 * (q / 4)) (levels + 1)) (cap - b + 1)

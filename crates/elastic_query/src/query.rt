@@ -11,7 +11,7 @@ ghost use Rattle.probe.specs.TreeLaws.{Node, Next, Ends};
 ghost use Rattle.elastic.specs.State.{Valid};
 ghost use Rattle.elastic.specs.Reading.{readingOf, holdsAt};
 ghost use Rattle.elastic_query.specs.Query.{positionsOf, queryOf};
-ghost use Rattle.elastic_query.specs.QuerySteps.{from, charged, Missed, Scanned, Queried, Scanning};
+ghost use Rattle.elastic_query.specs.QuerySteps.{from, charged, endOf, Missed, Scanned, Queried, Scanning, Visiting};
 use elastic::route::Reading;
 use elastic::route::holds;
 use elastic::route::route;
@@ -57,19 +57,10 @@ pub struct Stretch {
     pub q: u64,
 }
 
-// What the positions of a node say: the identity, on with the counts, or refused.
+// What a position or the positions of a node say: the answer of the walk, or on with the counts.
 pub enum Scan {
-    Hit {
-        position: u64,
-        slot: u64,
-        mapped: u64,
-        words: u64,
-    },
-    On {
-        mapped: u64,
-        words: u64,
-    },
-    Refused(RangeRefusal),
+    Ends(QueryAnswer),
+    On { mapped: u64, words: u64 },
 }
 
 // Where an identity is.
@@ -149,29 +140,14 @@ fn descend(words: &[u64], flags: &[u8], look: Lookup, spent: u64) -> QueryAnswer
     let mut w = spent;
     while b <= cap {
         match along(words, flags, look, b, j, q, m, w) {
-            Scan::Hit {
-                position,
-                slot,
+            Scan::Ends(answer) => {
+                return answer;
+            }
+            Scan::On {
                 mapped,
                 words: total,
             } => {
-                let found = Finding {
-                    position,
-                    global_slot: GlobalSlot(slot),
-                    mapped,
-                    gap: position - mapped,
-                    words: total,
-                };
-                return QueryAnswer::Found(found);
-            }
-            Scan::Refused(refusal) => {
-                return QueryAnswer::Range(refusal);
-            }
-            Scan::On {
-                mapped: more,
-                words: total,
-            } => {
-                m = more;
+                m = mapped;
                 w = total;
             }
         }
@@ -200,35 +176,21 @@ fn along(
         (λ m w. from (readingOf (look .n) (look .key) (look .«word_cap»)) (holdsAt (now (words .entry)) (now (flags .entry)) (look .id)) (look .last + 1) (look .cap) (b + 2 * (q / 4)) m w)
         (b + 2 * (q / 4)) ⌝ }
 {
-    let id = look.id;
-    let key = look.key;
-    let n = look.n;
-    let last = look.last;
-    let word_cap = look.word_cap;
-    let cap = look.cap;
-    let quarter = q / 4;
-    let end = least(least(2 * quarter, last + 2), cap - b + 1);
-    let mut i = quarter;
+    let end = scan_end(look.last, look.cap, b, q);
+    let mut i = q / 4;
     let mut m = mapped;
     let mut w = spent;
     while i < end {
-        let probe = LogicalProbe(j - 1);
-        match route(key, n, last, word_cap, i - 1, probe) {
-            Reading::Refused(refusal) => {
-                return Scan::Refused(refusal);
+        match visit(words, flags, look, b + i, i, j, m, w) {
+            Scan::Ends(answer) => {
+                return Scan::Ends(answer);
             }
-            Reading::Slot { slot, words: taken } => {
-                w += charge(i, j, taken);
-                m += 1;
-                if holds(words, flags, id, slot) {
-                    let position = b + i;
-                    return Scan::Hit {
-                        position,
-                        slot,
-                        mapped: m,
-                        words: w,
-                    };
-                }
+            Scan::On {
+                mapped: more,
+                words: total,
+            } => {
+                m = more;
+                w = total;
             }
         }
         i += 1;
@@ -236,6 +198,62 @@ fn along(
     Scan::On {
         mapped: m,
         words: w,
+    }
+}
+
+// Where the mapped positions of a node end: at its middle, past the last level, or at the cap.
+pub fn scan_end(last: u64, cap: u64, b: u64, q: u64) -> u64
+    requires { ⌜ (last < 32) × (b ≤ cap) × (cap ≤ 984263340) ⌝ }
+    ensures { λ r. ⌜ r ≡ endOf (last + 1) cap b q ⌝ }
+{
+    least(least(2 * (q / 4), last + 2), cap - b + 1)
+}
+
+fn least(a: u64, b: u64) -> u64
+    ensures { λ r. ⌜ r ≡ min a b ⌝ }
+{
+    if a < b { a } else { b }
+}
+
+// The mapped position of level i and probe j, both from 1.
+fn visit(
+    words: &[u64],
+    flags: &[u8],
+    look: Lookup,
+    position: u64,
+    i: u64,
+    j: u64,
+    mapped: u64,
+    spent: u64,
+) -> Scan
+    requires { ⌜ Queried (look .n) (look .last) (look .«word_cap») (look .cap) (length (now words)) (length (now flags))
+        × Visiting (look .last + 1) (look .cap) position i j mapped spent ⌝ }
+    ensures { λ r. ⌜ Scanned (from (readingOf (look .n) (look .key) (look .«word_cap»)) (holdsAt (now (words .entry)) (now (flags .entry)) (look .id)) (look .last + 1) (look .cap) position mapped spent) r
+        (λ m w. from (readingOf (look .n) (look .key) (look .«word_cap»)) (holdsAt (now (words .entry)) (now (flags .entry)) (look .id)) (look .last + 1) (look .cap) (position + 1) m w)
+        (position + 1) ⌝ }
+{
+    let probe = LogicalProbe(j - 1);
+    match route(look.key, look.n, look.last, look.word_cap, i - 1, probe) {
+        Reading::Refused(refusal) => {
+            return Scan::Ends(QueryAnswer::Range(refusal));
+        }
+        Reading::Slot { slot, words: taken } => {
+            let total = spent + charge(i, j, taken);
+            if holds(words, flags, look.id, slot) {
+                let found = Finding {
+                    position,
+                    global_slot: GlobalSlot(slot),
+                    mapped: mapped + 1,
+                    gap: position - (mapped + 1),
+                    words: total,
+                };
+                return Scan::Ends(QueryAnswer::Found(found));
+            }
+            return Scan::On {
+                mapped: mapped + 1,
+                words: total,
+            };
+        }
     }
 }
 
@@ -248,12 +266,6 @@ pub fn charge(i: u64, j: u64, taken: u64) -> u64
         return 0;
     }
     taken
-}
-
-pub fn least(a: u64, b: u64) -> u64
-    ensures { λ r. ⌜ r ≡ min a b ⌝ }
-{
-    if a < b { a } else { b }
 }
 
 // From the middle of a node to the next node.

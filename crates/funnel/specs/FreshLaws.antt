@@ -10,6 +10,7 @@ use lib.Dec.{eqb}
 use lib.ListN.{length, getD, set, replicate, length-set, length-replicate}
 use lib.Seq.{getD-set-same, getD-set-other}
 use borrow.Author.Tests.{eq-eqb, lt-leb, eqb-true, eqb-false}
+use Rattle.words.specs.BytesLaws.{getD-zeros}
 use Rattle.words.specs.Pick.{pick}
 use Rattle.words.specs.declared.place.Place.{Place}
 use Rattle.geometry.specs.Funnel.{IsPlan}
@@ -138,11 +139,6 @@ occupied-set [] s l v = absurd (omega arith)
 occupied-set (flag ∷ flags) zero l v = let e : eqb flag 0 ≡ true = eq-eqb flag 0 v in rw e (omega arith)
 occupied-set (flag ∷ flags) (suc s) l v = let h = occupied-set flags s (omega arith) v in omega arith
 
-pub zero-at : (n i : ℕ) → getD {A = ℕ} (replicate n 0) i 0 ≡ 0
-zero-at zero i = refl
-zero-at (suc n) zero = refl
-zero-at (suc n) (suc i) = zero-at n i
-
 -- a fresh table is sound
 pub fresh-sound : {n e : ℕ} {plan : FunnelPlan} {counts : List ℕ} → IsPlan n e plan counts → (seed cap : ℕ) → 1 ≤ cap → cap ≤ 256 → Sound counts (fresh n e seed cap plan)
 fresh-sound {n} {e} {plan} {counts} is seed cap a b =
@@ -156,8 +152,8 @@ fresh-sound {n} {e} {plan} {counts} is seed cap a b =
         counted = omega arith;
       };
       counts-occupied = sym (occupied-none n);
-      flags-small = λ i. omega (arith, zero-at n i);
-      vacant-zero = λ i h. zero-at n i;
+      flags-small = λ i. omega (arith, getD-zeros n i);
+      vacant-zero = λ i h. getD-zeros n i;
     }
 
 -- an insertion keeps a table sound

@@ -10,6 +10,7 @@ pub mod Fresh
 pub mod FreshLaws
 pub mod Insert
 pub mod InsertLaws
+pub mod OneBucket
 pub mod OrderLaws
 pub mod Path
 pub mod PathLaws

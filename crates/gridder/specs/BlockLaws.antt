@@ -32,6 +32,37 @@ num-lent (x ∷ words) out at (suc i) f h =
     let s : length (sets out at (bytesOf 8 x)) ≡ length out = length-sets out at (bytesOf 8 x) in
     rw (z, sets-append out at (bytesOf 8 x) (lent words), l) (num-lent words (sets out at (bytesOf 8 x)) (at + 8) i (omega arith) (omega arith))
 
+-- a block of zeros into which words were written, and counts from a later byte on
+abbrev pub written : (zeros words : List ℕ) (at : ℕ) (counts : List ℕ) → List ℕ
+written zeros words at counts = sets (sets zeros 0 (lent words)) at (lent counts)
+
+module _ (zeros words : List ℕ) (at : ℕ) (counts : List ℕ) (k : ℕ) (long : length zeros ≡ stateLength) (behind : length words * 8 ≤ at) (room : at + k * 8 ≤ stateLength)
+    (all : length counts ≡ k) where
+  written-header : length (sets zeros 0 (lent words)) ≡ stateLength
+  written-header = length-sets zeros 0 (lent words) ∙ long
+
+  pub written-long : length (written zeros words at counts) ≡ stateLength
+  written-long = length-sets (sets zeros 0 (lent words)) at (lent counts) ∙ written-header
+
+  pub written-word : (i x : ℕ) → i < length words → getD words i 0 ≡ x → x < 2 ^ 64 → numAt (written zeros words at counts) (i * 8) 8 ≡ x
+  written-word i x h e b =
+      let o : (at + length (lent counts) ≤ i * 8) ⊎ (i * 8 + 8 ≤ at) = inr (omega arith) in
+      let z : 0 + i * 8 ≡ i * 8 = omega arith in
+      let m : numAt (sets zeros 0 (lent words)) (i * 8) 8 ≡ getD words i 0 % 256 ^ 8 = rw z at (num-lent words zeros 0 i (omega arith) h) in
+      let r : x % 256 ^ 8 ≡ x = omega arith in
+      num-sets (lent counts) (sets zeros 0 (lent words)) at (i * 8) 8 o ∙ m ∙ rw (e, r)
+
+  pub written-counts : ((i : ℕ) → i < k → getD counts i 0 < 2 ^ 64) → wordsFrom (written zeros words at counts) at k ≡ counts
+  written-counts each =
+      ext-getD 0 _ _ (length-from (written zeros words at counts) at k ∙ sym all)
+      (λ i h. let u : i < k = omega (arith, length-from (written zeros words at counts) at k, h) in from-at (written zeros words at counts) at k i u ∙ at-count i u)
+    where
+      at-count : (i : ℕ) → i < k → numAt (written zeros words at counts) (at + i * 8) 8 ≡ getD counts i 0
+      at-count i h =
+          let b = each i h in
+          let r : getD counts i 0 % 256 ^ 8 ≡ getD counts i 0 = omega arith in
+          num-lent counts (sets zeros 0 (lent words)) at i (omega (arith, written-header)) (omega arith) ∙ r
+
 -- numbers that fit their words
 pub record Words (t : FunnelTable) (counts : List ℕ) : Type 0 where
   pub n : t .n < 2 ^ 64
@@ -54,39 +85,15 @@ pub record Words (t : FunnelTable) (counts : List ℕ) : Type 0 where
   pub each : (i : ℕ) → i < 118 → getD counts i 0 < 2 ^ 64
 
 module _ (t : FunnelTable) (counts : List ℕ) (fits : Words t counts) (zeros : List ℕ) (long : length zeros ≡ stateLength) where
-  abbrev header : List ℕ
-  header = sets zeros 0 (lent (tableWords t))
-
   abbrev block : List ℕ
-  block = sets header countsAt (lent counts)
-
-  header-long : length header ≡ stateLength
-  header-long = length-sets zeros 0 (lent (tableWords t)) ∙ long
-
-  block-long : length block ≡ stateLength
-  block-long = length-sets header countsAt (lent counts) ∙ header-long
+  block = written zeros (tableWords t) countsAt counts
 
   field-at : (i x : ℕ) → i < 17 → getD (tableWords t) i 0 ≡ x → x < 2 ^ 64 → numAt block (i * 8) 8 ≡ x
-  field-at i x h e b =
-      let o : (countsAt + length (lent counts) ≤ i * 8) ⊎ (i * 8 + 8 ≤ countsAt) = inr (omega arith) in
-      let z : 0 + i * 8 ≡ i * 8 = omega arith in
-      let l : length (tableWords t) ≡ 17 = refl in
-      let m : numAt header (i * 8) 8 ≡ getD (tableWords t) i 0 % 256 ^ 8 = rw z at (num-lent (tableWords t) zeros 0 i (omega (arith, long)) (omega arith)) in
-      let r : x % 256 ^ 8 ≡ x = omega arith in
-      num-sets (lent counts) header countsAt (i * 8) 8 o ∙ m ∙ rw (e, r)
-
-  count-at : (i : ℕ) → i < 118 → numAt block (countsAt + i * 8) 8 ≡ getD counts i 0
-  count-at i h =
-      let l = fits .levels in
-      let b = fits .each i h in
-      let r : getD counts i 0 % 256 ^ 8 ≡ getD counts i 0 = omega arith in
-      num-lent counts header countsAt i (omega (arith, header-long)) (omega arith) ∙ r
+  field-at = written-word zeros (tableWords t) countsAt counts 118 long (omega arith) (omega arith) (fits .levels)
 
   read-counts : countsIn block ≡ counts
   unfolding countsIn
-  read-counts =
-      ext-getD 0 _ _ (length-from block countsAt 118 ∙ sym (fits .levels))
-      (λ i h. let k : i < 118 = omega (arith, length-from block countsAt 118, h) in from-at block countsAt 118 i k ∙ count-at i k)
+  read-counts = written-counts zeros (tableWords t) countsAt counts 118 long (omega arith) (omega arith) (fits .levels) (fits .each)
 
   read-table : tableIn block ≡ t
   unfolding tableIn planIn
@@ -116,7 +123,7 @@ module _ (t : FunnelTable) (counts : List ℕ) (fits : Words t counts) (zeros : 
       let k : numAt block 0 8 ≡ funnelKind = field-at 0 funnelKind (omega arith) refl (omega arith) in
       let a : t .e < 2 ^ 64 = omega (arith, fits .e) in
       let e : numAt block 16 8 ≡ t .e = field-at 2 (t .e) (omega arith) refl a in
-      sym (holds-kind block block-long k) ∙ rw e (lt-ltb _ _ (fits .e))
+      sym (holds-kind _ block (written-long zeros (tableWords t) countsAt counts 118 long (omega arith) (omega arith) (fits .levels)) k) ∙ rw e (lt-ltb _ _ (fits .e))
 
 -- the block of a table holds that table
 pub record Holding (t : FunnelTable) (counts : List ℕ) : Type 0 where

@@ -27,8 +27,11 @@ abbrev pub countsAt : ℕ
 countsAt = 136
 
 -- "one that holds no state": a block of another length or another kind, or whose e is no u32
-unfoldable pub holdsFunnel : List ℕ → Bool
-holdsFunnel b = pick (eqb (length b) stateLength) (pick (eqb (numAt b 0 8) funnelKind) (ltb (numAt b 16 8) 4294967296) false) false
+unfoldable pub holdsKind : (kind : ℕ) → List ℕ → Bool
+holdsKind kind b = pick (eqb (length b) stateLength) (pick (eqb (numAt b 0 8) kind) (ltb (numAt b 16 8) 4294967296) false) false
+
+abbrev pub holdsFunnel : List ℕ → Bool
+holdsFunnel b = holdsKind funnelKind b
 
 -- the plan in a block
 unfoldable pub planIn : List ℕ → FunnelPlan

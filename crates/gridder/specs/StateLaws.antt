@@ -12,31 +12,31 @@ use Rattle.words.specs.Bytes.{numAt}
 use Rattle.words.specs.Pick.{pick}
 use Rattle.funnel.specs.declared.table.FunnelTable.{FunnelTable}
 use Rattle.lent.specs.Lent.{lent}
-use Rattle.gridder.specs.State.{stateLength, funnelKind, countsAt, holdsFunnel, planWords, funnelBlock}
+use Rattle.gridder.specs.State.{stateLength, funnelKind, countsAt, holdsKind, planWords, funnelBlock}
 
 -- test by test
-module _ (b : List ℕ) where
-  pub holds-short : (length b ≡ stateLength → ⊥) → false ≡ holdsFunnel b
-  unfolding holdsFunnel
+module _ (kind : ℕ) (b : List ℕ) where
+  pub holds-short : (length b ≡ stateLength → ⊥) → false ≡ holdsKind kind b
+  unfolding holdsKind
   holds-short n = sym (rw (ne-eqb _ _ n))
 
   module _ (l : length b ≡ stateLength) where
-    pub holds-other : (numAt b 0 8 ≡ funnelKind → ⊥) → false ≡ holdsFunnel b
-    unfolding holdsFunnel
+    pub holds-other : (numAt b 0 8 ≡ kind → ⊥) → false ≡ holdsKind kind b
+    unfolding holdsKind
     holds-other n = sym (rw (eq-eqb _ _ l, ne-eqb _ _ n))
 
-    pub holds-kind : numAt b 0 8 ≡ funnelKind → ltb (numAt b 16 8) 4294967296 ≡ holdsFunnel b
-    unfolding holdsFunnel
+    pub holds-kind : numAt b 0 8 ≡ kind → ltb (numAt b 16 8) 4294967296 ≡ holdsKind kind b
+    unfolding holdsKind
     holds-kind k = sym (rw (eq-eqb _ _ l, eq-eqb _ _ k))
 
--- what it says that a block holds a funnel table
+-- what it says that a block holds a table of some kind
 pub record Holds (b : List ℕ) : Type 0 where
   pub long : length b ≡ stateLength
   pub exponent : numAt b 16 8 < 4294967296
 
-pub holds-facts : (b : List ℕ) → holdsFunnel b ≡ true → Holds b
-unfolding holdsFunnel
-holds-facts b h = go (eqb (length b) stateLength) (eqb (numAt b 0 8) funnelKind) (ltb (numAt b 16 8) 4294967296) refl refl h
+pub holds-facts : (kind : ℕ) (b : List ℕ) → holdsKind kind b ≡ true → Holds b
+unfolding holdsKind
+holds-facts kind b h = go (eqb (length b) stateLength) (eqb (numAt b 0 8) kind) (ltb (numAt b 16 8) 4294967296) refl refl h
   where
     no : false ≡ true → ⊥
     no e = let z : _≡_ {A = ℕ} 0 1 = cc in omega arith

@@ -1,15 +1,13 @@
 -- The state block of an elastic table: 2,048 bytes, each number a little-endian word of eight bytes. Assumes nothing.
-use mathlib.Core.Bool.{Bool, false}
+use mathlib.Core.Bool.{Bool}
 use mathlib.Core.List.{List, [], _∷_}
 use Prim.Native.Nat.{ℕ}
-use lib.Dec.{eqb, ltb}
-use lib.ListN.{length, replicate}
+use lib.ListN.{replicate}
 use lib.Seq.{sets}
 use Rattle.words.specs.Bytes.{numAt}
-use Rattle.words.specs.Pick.{pick}
 use Rattle.elastic.specs.declared.state.State.{State}
 use Rattle.lent.specs.Lent.{wordsFrom, lent}
-use Rattle.gridder.specs.State.{stateLength, countAt, withCountIn}
+use Rattle.gridder.specs.State.{stateLength, countAt, holdsKind, withCountIn}
 
 -- what the first word says of a block that holds an elastic table
 abbrev pub elasticKind : ℕ
@@ -19,9 +17,9 @@ elasticKind = 2
 abbrev pub levelsAt : ℕ
 levelsAt = 88
 
--- "one that holds no state": a block of another length or another kind, or whose e is no u32
-unfoldable pub holdsElastic : List ℕ → Bool
-holdsElastic b = pick (eqb (length b) stateLength) (pick (eqb (numAt b 0 8) elasticKind) (ltb (numAt b 16 8) 4294967296) false) false
+-- "one that holds no state", as for a funnel
+abbrev pub holdsElastic : List ℕ → Bool
+holdsElastic b = holdsKind elasticKind b
 
 -- the state in a block
 unfoldable pub stateIn : List ℕ → State

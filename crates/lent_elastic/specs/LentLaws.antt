@@ -1,28 +1,17 @@
 -- Laws of elastic tables whose words are lent as bytes. Assumes nothing.
 use mathlib.Core.Bool.{Bool}
 use mathlib.Core.List.{List}
-use mathlib.Core.Path.{_≡_, sym, _∙_}
-use Prim.Native.Nat.{ℕ, _+_, _*_, _-_, _^_, _<_, _≤_}
+use mathlib.Core.Path.{_≡_, _∙_}
+use Prim.Native.Nat.{ℕ, _+_, _*_, _-_, _<_, _≤_}
 use native.Mathlib.Omega.{arith}
-use lib.ListN.{length, set}
-use lib.Seq.{sets}
-use Rattle.words.specs.Bytes.{bytesOf}
+use lib.ListN.{length}
 use Rattle.probe.specs.Word.{elasticKeyOf}
-use Rattle.elastic_insert.specs.Insert.{Done, done}
 use Rattle.elastic_query.specs.Query.{positionsOf}
 use Rattle.elastic_query.specs.QueryLaws.{valid-queried}
 use Rattle.elastic.specs.Reading.{Read, readingOf}
-use Rattle.elastic_insert.specs.declared.insert.InsertAnswer.{InsertAnswer}
 use Rattle.elastic_query.specs.declared.query.QueryAnswer.{QueryAnswer}
 use Rattle.elastic.specs.declared.state.State.{State}
-use Rattle.lent.specs.Lent.{wordsOf}
-use Rattle.lent.specs.LentLaws.{words-set}
 use Rattle.lent_elastic.specs.Valid.{ValidLent, QueriedLent}
-
--- eight bytes stored in a slot's place are its word stored
-pub done-lent : (r : InsertAnswer) (st : State) (cs words words' flags : List ℕ) (slot identity : ℕ) (x : Done) → words' ≡ sets words (slot * 8) (bytesOf 8 identity)
-    → slot * 8 + 8 ≤ length words → identity < 2 ^ 64 → done r st cs (set (wordsOf words) slot identity) flags ≡ x → done r st cs (wordsOf words') flags ≡ x
-done-lent r st cs words words' flags slot identity x e f g h = rw (e, words-set words slot identity f g) h
 
 -- the slot of a reading lies in both buffers
 pub read-within : {n last wordCap cap : ℕ} {words flags : List ℕ} → QueriedLent n last wordCap cap words flags → {cap' level slot spent : ℕ} → Read n cap' level slot spent

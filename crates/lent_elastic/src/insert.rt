@@ -1,8 +1,9 @@
 // Insertion into a valid table whose words are lent as bytes, as in elastic's insert.rt. The steps read flags alone, so they are the
 // base's own.
 ghost use mathlib.Core.Path.{_≡_};
-ghost use lib.ListN.{length};
-ghost use Rattle.elastic_insert.specs.Insert.{done, placeBy, chooseOf};
+ghost use Prim.Native.Nat.{_+_, _*_, _<_, _≤_};
+ghost use lib.ListN.{length, set};
+ghost use Rattle.elastic_insert.specs.Insert.{done, addedTo, Storable, placeBy, chooseOf};
 ghost use Rattle.lent.specs.Lent.{wordsOf};
 ghost use Rattle.lent_elastic.specs.Valid.{ValidLent};
 use crate::route::find_identity;
@@ -12,11 +13,10 @@ use elastic_insert::insert::Chosen;
 use elastic_insert::insert::InsertAnswer;
 use elastic_insert::insert::InsertRefusal;
 use elastic_insert::insert::Inserted;
-use elastic_insert::insert::insertion_of;
 use elastic_insert::insert::position_of;
 use elastic_insert::insert::steps;
+use elastic_insert::insert::taken;
 use geometry::elastic::active_batch;
-use geometry::elastic::level_offset;
 use probe::word::elastic_key;
 use words::bytes::write64;
 use words::place::GlobalSlot;
@@ -53,21 +53,29 @@ pub fn place(
                     st,
                 };
             }
-            let offset = level_offset(st.n, level);
-            let members = counts[level as usize];
-            counts[level as usize] = members + 1;
-            let at = slot as usize;
-            write64(words, at * 8, identity);
-            flags[at] = 1;
-            let mut next = st;
-            next.count = st.count + 1;
-            let insertion = insertion_of(case, level, slot, offset, probe, position);
-            return Inserted {
-                answer: InsertAnswer::Inserted(insertion),
-                st: next,
-            };
+            store(counts, words, flags, level, slot, identity);
+            return taken(st, case, level, slot, probe, position);
         }
     }
+}
+
+// The identity into a slot, and one member more in its level.
+fn store(
+    counts: &mut [u64; 32],
+    words: &mut [u8],
+    flags: &mut [u8],
+    level: u64,
+    slot: u64,
+    identity: u64,
+)
+    requires { ⌜ Storable (now counts) level × (slot * 8 + 8 ≤ length (now words)) × (slot < length (now flags)) × (slot < 4294967296) ⌝ }
+    ensures { λ r. ⌜ (now (counts .exit) ≡ addedTo (now (counts .entry)) level) × (wordsOf (now (words .exit)) ≡ set (wordsOf (now (words .entry))) slot identity) × (now (flags .exit) ≡ set (now (flags .entry)) slot 1) ⌝ }
+{
+    let members = counts[level as usize];
+    counts[level as usize] = members + 1;
+    let at = slot as usize;
+    write64(words, at * 8, identity);
+    flags[at] = 1;
 }
 
 // The slot for an identity.

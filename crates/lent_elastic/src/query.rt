@@ -5,7 +5,7 @@ ghost use lib.ListN.{length};
 ghost use Rattle.probe.specs.Word.{elasticKeyOf};
 ghost use Rattle.elastic.specs.Reading.{readingOf, holdsAt};
 ghost use Rattle.elastic_query.specs.Query.{positionsOf};
-ghost use Rattle.elastic_query.specs.QuerySteps.{from, Missed, Scanned, Scanning};
+ghost use Rattle.elastic_query.specs.QuerySteps.{from, Missed, Scanned, Scanning, Visiting};
 ghost use Rattle.lent.specs.Lent.{wordsOf};
 ghost use Rattle.lent_elastic.specs.Valid.{ValidLent, QueriedLent};
 use crate::route::holds;
@@ -17,7 +17,7 @@ use elastic_query::query::Lookup;
 use elastic_query::query::QueryAnswer;
 use elastic_query::query::Scan;
 use elastic_query::query::charge;
-use elastic_query::query::least;
+use elastic_query::query::scan_end;
 use elastic_query::query::step;
 use probe::word::elastic_key;
 use words::place::GlobalSlot;
@@ -88,29 +88,14 @@ fn descend(words: &[u8], flags: &[u8], look: Lookup, spent: u64) -> QueryAnswer
     let mut w = spent;
     while b <= cap {
         match along(words, flags, look, b, j, q, m, w) {
-            Scan::Hit {
-                position,
-                slot,
+            Scan::Ends(answer) => {
+                return answer;
+            }
+            Scan::On {
                 mapped,
                 words: total,
             } => {
-                let found = Finding {
-                    position,
-                    global_slot: GlobalSlot(slot),
-                    mapped,
-                    gap: position - mapped,
-                    words: total,
-                };
-                return QueryAnswer::Found(found);
-            }
-            Scan::Refused(refusal) => {
-                return QueryAnswer::Range(refusal);
-            }
-            Scan::On {
-                mapped: more,
-                words: total,
-            } => {
-                m = more;
+                m = mapped;
                 w = total;
             }
         }
@@ -139,35 +124,21 @@ fn along(
         (λ m w. from (readingOf (look .n) (look .key) (look .«word_cap»)) (holdsAt (wordsOf (now (words .entry))) (now (flags .entry)) (look .id)) (look .last + 1) (look .cap) (b + 2 * (q / 4)) m w)
         (b + 2 * (q / 4)) ⌝ }
 {
-    let id = look.id;
-    let key = look.key;
-    let n = look.n;
-    let last = look.last;
-    let word_cap = look.word_cap;
-    let cap = look.cap;
-    let quarter = q / 4;
-    let end = least(least(2 * quarter, last + 2), cap - b + 1);
-    let mut i = quarter;
+    let end = scan_end(look.last, look.cap, b, q);
+    let mut i = q / 4;
     let mut m = mapped;
     let mut w = spent;
     while i < end {
-        let probe = LogicalProbe(j - 1);
-        match route(key, n, last, word_cap, i - 1, probe) {
-            Reading::Refused(refusal) => {
-                return Scan::Refused(refusal);
+        match visit(words, flags, look, b + i, i, j, m, w) {
+            Scan::Ends(answer) => {
+                return Scan::Ends(answer);
             }
-            Reading::Slot { slot, words: taken } => {
-                w += charge(i, j, taken);
-                m += 1;
-                if holds(words, flags, id, slot) {
-                    let position = b + i;
-                    return Scan::Hit {
-                        position,
-                        slot,
-                        mapped: m,
-                        words: w,
-                    };
-                }
+            Scan::On {
+                mapped: more,
+                words: total,
+            } => {
+                m = more;
+                w = total;
             }
         }
         i += 1;
@@ -175,5 +146,47 @@ fn along(
     Scan::On {
         mapped: m,
         words: w,
+    }
+}
+
+// The mapped position of level i and probe j, both from 1.
+fn visit(
+    words: &[u8],
+    flags: &[u8],
+    look: Lookup,
+    position: u64,
+    i: u64,
+    j: u64,
+    mapped: u64,
+    spent: u64,
+) -> Scan
+    requires { ⌜ QueriedLent (look .n) (look .last) (look .«word_cap») (look .cap) (now words) (now flags)
+        × Visiting (look .last + 1) (look .cap) position i j mapped spent ⌝ }
+    ensures { λ r. ⌜ Scanned (from (readingOf (look .n) (look .key) (look .«word_cap»)) (holdsAt (wordsOf (now (words .entry))) (now (flags .entry)) (look .id)) (look .last + 1) (look .cap) position mapped spent) r
+        (λ m w. from (readingOf (look .n) (look .key) (look .«word_cap»)) (holdsAt (wordsOf (now (words .entry))) (now (flags .entry)) (look .id)) (look .last + 1) (look .cap) (position + 1) m w)
+        (position + 1) ⌝ }
+{
+    let probe = LogicalProbe(j - 1);
+    match route(look.key, look.n, look.last, look.word_cap, i - 1, probe) {
+        Reading::Refused(refusal) => {
+            return Scan::Ends(QueryAnswer::Range(refusal));
+        }
+        Reading::Slot { slot, words: taken } => {
+            let total = spent + charge(i, j, taken);
+            if holds(words, flags, look.id, slot) {
+                let found = Finding {
+                    position,
+                    global_slot: GlobalSlot(slot),
+                    mapped: mapped + 1,
+                    gap: position - (mapped + 1),
+                    words: total,
+                };
+                return Scan::Ends(QueryAnswer::Found(found));
+            }
+            return Scan::On {
+                mapped: mapped + 1,
+                words: total,
+            };
+        }
     }
 }

@@ -1,8 +1,7 @@
 -- `elastic_insert::insert::place` meets its contract: the slot that is chosen is vacant and lies in its level, so all writes are within bounds. Assumes nothing.
-use mathlib.Core.Path.{refl, sym, _∙_}
+use mathlib.Core.Path.{sym, _∙_}
 use native.Mathlib.Omega.{arith}
-use Rattle.elastic.specs.ReadingLaws.{probed-offset, probed-within}
-use Rattle.elastic_insert.specs.InsertLaws.{choose-taken, valid-searching, searching-probed, place-refused, place-position, place-inserted}
+use Rattle.elastic_insert.specs.InsertLaws.{choose-taken, taken-storable, taken-offset, taken-asked, place-refused, place-position, place-inserted}
 use borrow.Author.Needs.{needs}
 use Rattle.elastic_insert.proofs.insert.place.Statement.{statement}
 use Rattle.elastic_insert.proofs.insert.place.Tie as tie
@@ -37,47 +36,16 @@ same-length-4 c = search needs
 returns-2 : tie.Need-returns-2
 returns-2 c = place-position _ _ _ _ _ _ (c .before .before .before .before .before .before .before .choose .ensures) _ _ _ _ _ (c .before .before .before .before .before .case .given .1) (c .before .before .position-of .ensures) (c .if1 .taken)
 
-level-offset-requires : tie.Need-level-offset-requires
-level-offset-requires c κs = search needs
-
-mul-members : tie.Need-mul-members
-mul-members c = let t = choose-taken _ _ _ _ (c .before .before .before .before .before .before .before .before .before .before .before .before .before .before .pre) _ _ _ _ _ (sym (c .before .before .before .before .before .before .before .before .choose .ensures) ∙ c .before .before .before .before .before .before .case .given .1) in omega (arith, t .few)
-
-element-copy-out-members : tie.Need-element-copy-out-members
-element-copy-out-members c = let t = choose-taken _ _ _ _ (c .before .before .before .before .before .before .before .before .before .before .before .before .before .before .pre) _ _ _ _ _ (sym (c .before .before .before .before .before .before .before .before .choose .ensures) ∙ c .before .before .before .before .before .before .case .given .1) in t .few
-
-add-counts : tie.Need-add-counts
-add-counts c =
-    let v = c .before .before .before .before .before .before .before .before .before .before .before .before .before .before .before .pre in
-    let t = choose-taken _ _ _ _ (c .before .before .before .before .before .before .before .before .before .before .before .before .before .before .before .pre) _ _ _ _ _ (sym (c .before .before .before .before .before .before .before .before .before .choose .ensures) ∙ c .before .before .before .before .before .before .before .case .given .1) in
-    let w = v .within (c .before .before .before .before .before .before .before .case .given .0 .1 .0) in
-    let l = probed-within (searching-probed (valid-searching v _ (t .has)) _ refl) in
-    omega (arith, w, l, v .config .most)
-
-mul-counts : tie.Need-mul-counts
-mul-counts c = let t = choose-taken _ _ _ _ (c .before .before .before .before .before .before .before .before .before .before .before .before .before .before .before .pre) _ _ _ _ _ (sym (c .before .before .before .before .before .before .before .before .before .choose .ensures) ∙ c .before .before .before .before .before .before .before .case .given .1) in omega (arith, t .few)
-
-element-write-counts : tie.Need-element-write-counts
-element-write-counts c = let t = choose-taken _ _ _ _ (c .before .before .before .before .before .before .before .before .before .before .before .before .before .before .before .pre) _ _ _ _ _ (sym (c .before .before .before .before .before .before .before .before .before .choose .ensures) ∙ c .before .before .before .before .before .before .before .case .given .1) in t .few
-
-mul-words : tie.Need-mul-words
-mul-words c = let t = choose-taken _ _ _ _ (c .before .before .before .before .before .before .before .before .before .before .before .before .before .before .before .pre) _ _ _ _ _ (sym (c .before .before .before .before .before .before .before .before .before .choose .ensures) ∙ c .before .before .before .before .before .before .before .case .given .1) in omega (arith, t .below, c .before .before .before .before .before .before .before .before .before .before .before .before .before .before .before .pre .config .most)
-
-slice-write-words : tie.Need-slice-write-words
-slice-write-words c = let t = choose-taken _ _ _ _ (c .before .before .before .before .before .before .before .before .before .before .before .before .before .before .before .pre) _ _ _ _ _ (sym (c .before .before .before .before .before .before .before .before .before .choose .ensures) ∙ c .before .before .before .before .before .before .before .case .given .1) in omega (arith, t .below, c .before .before .before .before .before .before .before .before .before .before .before .before .before .before .before .pre .words-size)
-
-slice-write-flags : tie.Need-slice-write-flags
-slice-write-flags c = let t = choose-taken _ _ _ _ (c .before .before .before .before .before .before .before .before .before .before .before .before .before .before .before .pre) _ _ _ _ _ (sym (c .before .before .before .before .before .before .before .before .before .choose .ensures) ∙ c .before .before .before .before .before .before .before .case .given .1) in omega (arith, t .below, c .before .before .before .before .before .before .before .before .before .before .before .before .before .before .before .pre .flags-size)
-
-add-next : tie.Need-add-next
-add-next c = search needs
-
-insertion-of-requires : tie.Need-insertion-of-requires
-insertion-of-requires c κs =
+store-requires : tie.Need-store-requires
+store-requires c κs =
     let v = c .before .before .before .before .before .before .before .before .before .before .before .before .before .before .before .before .pre in
     let t = choose-taken _ _ _ _ (c .before .before .before .before .before .before .before .before .before .before .before .before .before .before .before .before .pre) _ _ _ _ _ (sym (c .before .before .before .before .before .before .before .before .before .before .choose .ensures) ∙ c .before .before .before .before .before .before .before .before .case .given .1) in
-    let o = probed-offset (searching-probed (valid-searching v _ (t .has)) _ refl) _ (c .before .before .level-offset .ensures) in
-    (omega (arith, o, t .from), t .in-time)
+    (taken-storable v t, omega (arith, t .below, v .words-size), omega (arith, t .below, v .flags-size))
+
+taken-requires : tie.Need-taken-requires
+taken-requires c κs =
+    let t = choose-taken _ _ _ _ (c .before .before .before .before .before .before .before .before .before .before .before .before .before .before .before .before .before .before .before .before .before .pre) _ _ _ _ _ (sym (c .before .before .before .before .before .before .before .before .before .before .before .before .before .before .before .choose .ensures) ∙ c .before .before .before .before .before .before .before .before .before .before .before .before .before .case .given .1) in
+    taken-asked (c .before .before .before .before .before .before .before .before .before .before .before .before .before .before .before .before .before .before .before .before .before .pre) t
 
 same-length-5 : tie.Need-same-length-5
 same-length-5 c = search needs
@@ -87,9 +55,9 @@ same-length-6 c = search needs
 
 returns-3 : tie.Need-returns-3
 returns-3 c =
-    let v = c .before .before .before .before .before .before .before .before .before .before .before .before .before .before .before .before .before .pre in
-    let t = choose-taken _ _ _ _ (c .before .before .before .before .before .before .before .before .before .before .before .before .before .before .before .before .before .pre) _ _ _ _ _ (sym (c .before .before .before .before .before .before .before .before .before .before .before .choose .ensures) ∙ c .before .before .before .before .before .before .before .before .before .case .given .1) in
-    rw (c .insertion-of .ensures) (place-inserted _ _ _ _ _ _ (c .before .before .before .before .before .before .before .before .before .before .before .choose .ensures) _ _ _ _ _ (c .before .before .before .before .before .before .before .before .before .case .given .1) (c .before .before .before .before .before .before .position-of .ensures) _ (c .before .before .before .before .if1 .left) (probed-offset (searching-probed (valid-searching v _ (t .has)) _ refl) _ (c .before .before .before .level-offset .ensures)))
+    let t = choose-taken _ _ _ _ (c .before .before .before .before .before .before .before .before .before .before .before .before .before .before .before .before .before .before .before .before .before .before .pre) _ _ _ _ _ (sym (c .before .before .before .before .before .before .before .before .before .before .before .before .before .before .before .before .choose .ensures) ∙ c .before .before .before .before .before .before .before .before .before .before .before .before .before .before .case .given .1) in
+    let s = c .before .before .before .before .before .store .ensures in
+    place-inserted _ _ _ _ _ _ (c .before .before .before .before .before .before .before .before .before .before .before .before .before .before .before .before .choose .ensures) _ _ _ _ _ (c .before .before .before .before .before .before .before .before .before .before .before .before .before .before .case .given .1) (c .before .before .before .before .before .before .before .before .before .before .before .position-of .ensures) _ (c .before .before .before .before .before .before .before .before .before .if1 .left) (taken-offset (c .before .before .before .before .before .before .before .before .before .before .before .before .before .before .before .before .before .before .before .before .before .before .pre) t) (c .taken .ensures .0) (c .taken .ensures .1) (s .0) (s .1) (s .2)
 
 pub place-spec : {M : Type 1} → statement M
 place-spec =
@@ -105,17 +73,8 @@ place-spec =
     same-length-3
     same-length-4
     returns-2
-    level-offset-requires
-    mul-members
-    element-copy-out-members
-    add-counts
-    mul-counts
-    element-write-counts
-    mul-words
-    slice-write-words
-    slice-write-flags
-    add-next
-    insertion-of-requires
+    store-requires
+    taken-requires
     same-length-5
     same-length-6
     returns-3)

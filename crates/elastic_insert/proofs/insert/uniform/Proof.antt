@@ -4,36 +4,32 @@ use borrow.Author.Needs.{needs}
 use Rattle.elastic_insert.proofs.insert.uniform.Statement.{statement}
 use Rattle.elastic_insert.proofs.insert.uniform.Tie as tie
 
-sub-last : tie.Need-sub-last
-sub-last c = search needs
-
-seek-requires : tie.Need-seek-requires
-seek-requires c κs = search needs
+seek-level-requires : tie.Need-seek-level-requires
+seek-level-requires c κs = search needs
 
 enum-known-slot : tie.Need-enum-known-slot
 enum-known-slot c = search needs
 
 returns : tie.Need-returns
-returns c = uniform-vacant _ _ _ _ _ _ _ _ (c .before .before .before .seek .ensures) _ _ (c .before .slot .given .1)
+returns c = uniform-vacant _ _ _ _ _ _ _ _ (c .before .before .before .seek-level .ensures) _ _ (c .before .slot .given .1)
 
 enum-told : tie.Need-enum-told
 enum-told c = search needs
 
 returns-2 : tie.Need-returns-2
-returns-2 c = uniform-passed _ _ _ _ _ _ _ _ (c .before .before .seek .ensures) (c .enum-told .given .1)
+returns-2 c = uniform-passed _ _ _ _ _ _ _ _ (c .before .before .seek-level .ensures) (c .enum-told .given .1)
 
 enum-known-refusal : tie.Need-enum-known-refusal
 enum-known-refusal c = search needs
 
 returns-3 : tie.Need-returns-3
-returns-3 c = uniform-refused _ _ _ _ _ _ _ _ (c .before .before .before .seek .ensures) _ (c .before .refusal .given .1)
+returns-3 c = uniform-refused _ _ _ _ _ _ _ _ (c .before .before .before .seek-level .ensures) _ (c .before .refusal .given .1)
 
 pub uniform-spec : {M : Type 1} → statement M
 uniform-spec =
     tie.close
     (tie.spec
-    sub-last
-    seek-requires
+    seek-level-requires
     enum-known-slot
     returns
     enum-told

@@ -1,10 +1,9 @@
 -- `elastic_query::query::descend` meets its contract. The loop's invariant: the walk from position 3 is that from this node on. Assumes nothing.
-use mathlib.Core.Path.{_≡_, sym, _∙_}
 use Prim.Native.Nat.{_-_, _+_}
 use native.Mathlib.Omega.{arith}
 use borrow.Author.Needs.{needs}
 use Rattle.elastic.specs.Reading.{readingOf, holdsAt}
-use Rattle.elastic_query.specs.QueryLaws.{Walked, walked-start, walked-end, walked-scanning, walked-hit, walked-refused, hit-fits, walked-on}
+use Rattle.elastic_query.specs.QueryLaws.{Walked, walked-start, walked-end, walked-scanning, walked-ends, walked-on}
 use Rattle.elastic_query.proofs.query.descend.Statement.{statement}
 use Rattle.elastic_query.proofs.query.descend.Tie as tie
 
@@ -20,23 +19,14 @@ loop-holds c = walked-start _ _ _ _ _ (c .before .before .pre .2)
 along-requires : tie.Need-along-requires Inv-loop μ-loop
 along-requires c κs = (c .before .before .before .before .pre .0, walked-scanning _ _ _ _ _ _ _ _ _ _ (c .before .loop .inv) (c .before .before .before .before .pre .1) (c .loop-test .taken))
 
-enum-known-position : tie.Need-enum-known-position Inv-loop μ-loop
-enum-known-position c = search needs
-
-sub-t23 : tie.Need-sub-t23 Inv-loop μ-loop
-sub-t23 c = hit-fits _ _ _ _ _ _ _ _ _ _ (c .before .before .before .before .before .loop .inv) _ (c .before .before .before .along .ensures) _ _ _ _ (c .before .position .given .1)
+enum-known-answer : tie.Need-enum-known-answer Inv-loop μ-loop
+enum-known-answer c = search needs
 
 returns : tie.Need-returns Inv-loop μ-loop
-returns c = walked-hit _ _ _ _ _ _ _ _ _ _ (c .before .before .before .before .before .loop .inv) _ (c .before .before .before .along .ensures) _ _ _ _ (c .before .position .given .1)
+returns c = walked-ends _ _ _ _ _ _ _ _ _ _ (c .before .before .before .before .before .loop .inv) _ (c .before .before .before .along .ensures) _ (c .before .answer .given .1)
 
-enum-known-refusal : tie.Need-enum-known-refusal Inv-loop μ-loop
-enum-known-refusal c = search needs
-
-returns-2 : tie.Need-returns-2 Inv-loop μ-loop
-returns-2 c = walked-refused _ _ _ _ _ _ _ _ _ _ (c .before .before .before .before .before .loop .inv) _ (c .before .before .before .along .ensures) _ (c .before .refusal .given .1)
-
-enum-known-more : tie.Need-enum-known-more Inv-loop μ-loop
-enum-known-more c = search needs
+enum-known-mapped : tie.Need-enum-known-mapped Inv-loop μ-loop
+enum-known-mapped c = search needs
 
 step-requires : tie.Need-step-requires Inv-loop μ-loop
 step-requires c κs = (c .before .before .before .before .before .loop .inv .node, omega (arith, c .before .before .before .before .before .before .before .before .pre .0 .near, c .before .before .before .before .loop-test .taken))
@@ -45,10 +35,10 @@ loop-less : tie.Need-loop-less Inv-loop μ-loop
 loop-less c = omega (arith, c .step .ensures .1, c .before .before .before .before .before .loop-test .taken)
 
 loop-again : tie.Need-loop-again Inv-loop μ-loop
-loop-again c = walked-on _ _ _ _ _ _ _ _ _ _ (c .before .before .before .before .before .before .loop .inv) _ (c .before .before .before .before .along .ensures) _ _ _ _ _ (c .before .before .before .before .before .before .before .before .before .pre .1) (c .before .before .more .given .1) (c .step .ensures .0)
+loop-again c = walked-on _ _ _ _ _ _ _ _ _ _ (c .before .before .before .before .before .before .loop .inv) _ (c .before .before .before .before .along .ensures) _ _ _ _ _ (c .before .before .before .before .before .before .before .before .before .pre .1) (c .before .before .mapped .given .1) (c .step .ensures .0)
 
-returns-3 : tie.Need-returns-3 Inv-loop μ-loop
-returns-3 c = walked-end _ _ _ _ _ _ _ _ _ _ (c .before .loop .inv) (c .loop-test .left)
+returns-2 : tie.Need-returns-2 Inv-loop μ-loop
+returns-2 c = walked-end _ _ _ _ _ _ _ _ _ _ (c .before .loop .inv) (c .loop-test .left)
 
 pub descend-spec : {M : Type 1} → statement M
 descend-spec =
@@ -58,13 +48,10 @@ descend-spec =
     μ-loop
     loop-holds
     along-requires
-    enum-known-position
-    sub-t23
+    enum-known-answer
     returns
-    enum-known-refusal
-    returns-2
-    enum-known-more
+    enum-known-mapped
     step-requires
     loop-less
     loop-again
-    returns-3)
+    returns-2)

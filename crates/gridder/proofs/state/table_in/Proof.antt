@@ -6,25 +6,25 @@ use Rattle.gridder.proofs.state.table_in.Statement.{statement}
 use Rattle.gridder.proofs.state.table_in.Tie as tie
 
 read64-requires : tie.Need-read64-requires
-read64-requires c κs = let h = holds-facts _ (c .before .pre) in omega arith
+read64-requires c κs = let h = holds-facts _ _ (c .before .pre) in omega arith
 
 plan-in-requires : tie.Need-plan-in-requires
-plan-in-requires c κs = let h = holds-facts _ (c .before .before .pre) in omega arith
+plan-in-requires c κs = let h = holds-facts _ _ (c .before .before .pre) in omega arith
 
 read64-requires-2 : tie.Need-read64-requires-2
-read64-requires-2 c κs = let h = holds-facts _ (c .before .before .before .pre) in omega arith
+read64-requires-2 c κs = let h = holds-facts _ _ (c .before .before .before .pre) in omega arith
 
 cast-t5 : tie.Need-cast-t5
-cast-t5 c = let h = holds-facts _ (c .before .before .before .before .pre) in let e = c .before .before .read64 .ensures in omega arith
+cast-t5 c = let h = holds-facts _ _ (c .before .before .before .before .pre) in let e = c .before .before .read64 .ensures in omega arith
 
 read64-requires-3 : tie.Need-read64-requires-3
-read64-requires-3 c κs = let h = holds-facts _ (c .before .before .before .before .pre) in omega arith
+read64-requires-3 c κs = let h = holds-facts _ _ (c .before .before .before .before .pre) in omega arith
 
 read64-requires-4 : tie.Need-read64-requires-4
-read64-requires-4 c κs = let h = holds-facts _ (c .before .before .before .before .before .pre) in omega arith
+read64-requires-4 c κs = let h = holds-facts _ _ (c .before .before .before .before .before .pre) in omega arith
 
 read64-requires-5 : tie.Need-read64-requires-5
-read64-requires-5 c κs = let h = holds-facts _ (c .before .before .before .before .before .before .pre) in omega arith
+read64-requires-5 c κs = let h = holds-facts _ _ (c .before .before .before .before .before .before .pre) in omega arith
 
 returns : tie.Need-returns
 unfolding tableIn

@@ -11,7 +11,7 @@ table-in-requires : tie.Need-table-in-requires
 table-in-requires c κs = search needs
 
 read-counts-requires : tie.Need-read-counts-requires
-read-counts-requires c κs = let h = holds-facts _ (c .before .before .before .before .before .before .before .before .pre) in omega arith
+read-counts-requires c κs = let h = holds-facts _ _ (c .before .before .before .before .before .before .before .before .pre) in omega arith
 
 word-count-requires : tie.Need-word-count-requires
 word-count-requires c κs = search needs
@@ -33,7 +33,7 @@ put-requires c κs = let r = gate-ready _ _ _ (now (c .before .before .before .b
 
 count-insertion-requires : tie.Need-count-insertion-requires
 count-insertion-requires c κs = let r = ready-count (gate-ready _ (now (c .before .before .before .before .before .before .before .before .before .before .before .before .before .before .before .before .before .before .before .before .before .before .before .args .words)) (now (c .before .before .before .before .before .before .before .before .before .before .before .before .before .before .before .before .before .before .before .before .before .before .before .args .flags)) (now (c .before .before .before .before .before .before .before .before .before .before .before .before .before .before .before .before .before .before .before .before .before .before .before .args .answer)) _ _ _ (c .before .before .before .before .before .before .before .before .before .before .before .before .before .before .before .before .before .table-in .ensures) (c .before .before .before .before .before .before .before .before .before .before .before .before .before .before .read-counts .ensures) (c .before .before .before .before .before .before .before .before .before .before .before .before .before .word-count .ensures) _ (c .before .before .before .before .before .before .before .before .before .before .before .call-gate .ensures) (c .before .before .before .before .before .before .before .before .before .enum-told .given .1)) in
-    let h = holds-facts _ (c .before .before .before .before .before .before .before .before .before .before .before .before .before .before .before .before .before .before .before .before .before .before .before .pre) in
+    let h = holds-facts _ _ (c .before .before .before .before .before .before .before .before .before .before .before .before .before .before .before .before .before .before .before .before .before .before .before .pre) in
     (h .long, omega (arith, r .0, r .1))
 
 say-insertion-requires : tie.Need-say-insertion-requires

@@ -11,7 +11,7 @@ table-in-requires : tie.Need-table-in-requires
 table-in-requires c κs = search needs
 
 read-counts-requires : tie.Need-read-counts-requires
-read-counts-requires c κs = let h = holds-facts _ (c .before .before .before .before .before .before .before .before .before .before .pre) in omega arith
+read-counts-requires c κs = let h = holds-facts _ _ (c .before .before .before .before .before .before .before .before .before .before .pre) in omega arith
 
 word-count-requires : tie.Need-word-count-requires
 word-count-requires c κs = search needs
@@ -32,7 +32,7 @@ place-all-requires : tie.Need-place-all-requires
 place-all-requires c κs = let r = placement-ready _ (now (c .before .before .before .before .before .before .before .before .before .before .before .before .before .before .before .before .before .before .before .before .args .words)) (now (c .before .before .before .before .before .before .before .before .before .before .before .before .before .before .before .before .before .before .before .before .args .flags)) (now (c .before .before .before .before .before .before .before .before .before .before .before .before .before .before .before .before .before .before .before .before .args .identities)) (now (c .before .before .before .before .before .before .before .before .before .before .before .before .before .before .before .before .before .before .before .before .args .slots)) (now (c .before .before .before .before .before .before .before .before .before .before .before .before .before .before .before .before .before .before .before .before .args .answer)) _ _ _ (c .before .before .before .before .before .before .before .before .before .before .before .before .table-in .ensures) (c .before .before .before .before .before .before .before .before .before .read-counts .ensures) (c .before .before .before .before .before .before .before .before .word-count .ensures) _ (c .before .before .before .before .before .before .place-call-gate .ensures) (c .before .before .before .before .enum-told .given .1) in (r .call .lent, r .room)
 
 write-count-requires : tie.Need-write-count-requires
-write-count-requires c κs = holds-facts _ (c .before .before .before .before .before .before .before .before .before .before .before .before .before .before .before .before .before .before .before .before .before .before .before .before .before .before .before .before .before .pre) .long
+write-count-requires c κs = holds-facts _ _ (c .before .before .before .before .before .before .before .before .before .before .before .before .before .before .before .before .before .before .before .before .before .before .before .before .before .before .before .before .before .pre) .long
 
 say-placement-requires : tie.Need-say-placement-requires
 say-placement-requires c κs = placement-ready _ (now (c .before .before .before .before .before .before .before .before .before .before .before .before .before .before .before .before .before .before .before .before .before .before .before .before .before .before .before .before .before .before .before .before .before .args .words)) (now (c .before .before .before .before .before .before .before .before .before .before .before .before .before .before .before .before .before .before .before .before .before .before .before .before .before .before .before .before .before .before .before .before .before .args .flags)) (now (c .before .before .before .before .before .before .before .before .before .before .before .before .before .before .before .before .before .before .before .before .before .before .before .before .before .before .before .before .before .before .before .before .before .args .identities)) (now (c .before .before .before .before .before .before .before .before .before .before .before .before .before .before .before .before .before .before .before .before .before .before .before .before .before .before .before .before .before .before .before .before .before .args .slots)) (now (c .before .before .before .before .before .before .before .before .before .before .before .before .before .before .before .before .before .before .before .before .before .before .before .before .before .before .before .before .before .before .before .before .before .args .answer)) _ _ _ (c .before .before .before .before .before .before .before .before .before .before .before .before .before .before .before .before .before .before .before .before .before .before .before .before .before .table-in .ensures) (c .before .before .before .before .before .before .before .before .before .before .before .before .before .before .before .before .before .before .before .before .before .before .read-counts .ensures) (c .before .before .before .before .before .before .before .before .before .before .before .before .before .before .before .before .before .before .before .before .before .word-count .ensures) _ (c .before .before .before .before .before .before .before .before .before .before .before .before .before .before .before .before .before .before .before .place-call-gate .ensures) (c .before .before .before .before .before .before .before .before .before .before .before .before .before .before .before .before .before .enum-told .given .1) .call .room

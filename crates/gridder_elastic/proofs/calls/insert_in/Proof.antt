@@ -1,7 +1,7 @@
 -- `gridder_elastic::calls::insert_in` meets its contract. By what its gate said of the table in the block. Assumes nothing.
 use denote.Ref.{now}
 use native.Mathlib.Omega.{arith}
-use Rattle.gridder_elastic.specs.StateLaws.{holds-facts}
+use Rattle.gridder.specs.StateLaws.{holds-facts}
 use Rattle.gridder_elastic.specs.CallLaws.{gate-ready, insert-refused, insert-passed}
 use borrow.Author.Needs.{needs}
 use Rattle.gridder_elastic.proofs.calls.insert_in.Statement.{statement}
@@ -11,7 +11,7 @@ state-in-requires : tie.Need-state-in-requires
 state-in-requires c κs = search needs
 
 read-counts-requires : tie.Need-read-counts-requires
-read-counts-requires c κs = let h = holds-facts _ (c .before .before .before .before .before .before .before .before .pre) in omega arith
+read-counts-requires c κs = let h = holds-facts _ _ (c .before .before .before .before .before .before .before .before .pre) in omega arith
 
 word-count-requires : tie.Need-word-count-requires
 word-count-requires c κs = search needs
@@ -32,7 +32,7 @@ place-requires : tie.Need-place-requires
 place-requires c κs = gate-ready _ (now (c .before .before .before .before .before .before .before .before .before .before .before .before .before .before .before .before .before .args .words)) (now (c .before .before .before .before .before .before .before .before .before .before .before .before .before .before .before .before .before .args .flags)) (now (c .before .before .before .before .before .before .before .before .before .before .before .before .before .before .before .before .before .args .answer)) _ _ _ (c .before .before .before .before .before .before .before .before .before .before .before .state-in .ensures) (c .before .before .before .before .before .before .before .before .read-counts .ensures) (c .before .before .before .before .before .before .before .word-count .ensures) _ (c .before .before .before .before .before .call-gate .ensures) (c .before .before .before .enum-told .given .1) .lent
 
 count-insertion-requires : tie.Need-count-insertion-requires
-count-insertion-requires c κs = holds-facts _ (c .before .before .before .before .before .before .before .before .before .before .before .before .before .before .before .before .before .before .before .before .before .before .before .before .before .pre) .long
+count-insertion-requires c κs = holds-facts _ _ (c .before .before .before .before .before .before .before .before .before .before .before .before .before .before .before .before .before .before .before .before .before .before .before .before .before .pre) .long
 
 say-insert-requires : tie.Need-say-insert-requires
 say-insert-requires c κs = gate-ready _ (now (c .before .before .before .before .before .before .before .before .before .before .before .before .before .before .before .before .before .before .before .before .before .before .before .before .before .before .before .before .before .args .words)) (now (c .before .before .before .before .before .before .before .before .before .before .before .before .before .before .before .before .before .before .before .before .before .before .before .before .before .before .before .before .before .args .flags)) (now (c .before .before .before .before .before .before .before .before .before .before .before .before .before .before .before .before .before .before .before .before .before .before .before .before .before .before .before .before .before .args .answer)) _ _ _ (c .before .before .before .before .before .before .before .before .before .before .before .before .before .before .before .before .before .before .before .before .before .before .before .state-in .ensures) (c .before .before .before .before .before .before .before .before .before .before .before .before .before .before .before .before .before .before .before .before .read-counts .ensures) (c .before .before .before .before .before .before .before .before .before .before .before .before .before .before .before .before .before .before .before .word-count .ensures) _ (c .before .before .before .before .before .before .before .before .before .before .before .before .before .before .before .before .before .call-gate .ensures) (c .before .before .before .before .before .before .before .before .before .before .before .before .before .before .before .enum-told .given .1) .room

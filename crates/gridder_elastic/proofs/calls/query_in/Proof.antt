@@ -1,7 +1,7 @@
 -- `gridder_elastic::calls::query_in` meets its contract. By what its gate said of the table in the block. Assumes nothing.
 use denote.Ref.{now}
 use native.Mathlib.Omega.{arith}
-use Rattle.gridder_elastic.specs.StateLaws.{holds-facts}
+use Rattle.gridder.specs.StateLaws.{holds-facts}
 use Rattle.gridder_elastic.specs.CallLaws.{gate-ready, query-refused, query-passed}
 use borrow.Author.Needs.{needs}
 use Rattle.gridder_elastic.proofs.calls.query_in.Statement.{statement}
@@ -11,7 +11,7 @@ state-in-requires : tie.Need-state-in-requires
 state-in-requires c κs = search needs
 
 read-counts-requires : tie.Need-read-counts-requires
-read-counts-requires c κs = let h = holds-facts _ (c .before .before .before .before .before .before .pre) in omega arith
+read-counts-requires c κs = let h = holds-facts _ _ (c .before .before .before .before .before .before .pre) in omega arith
 
 word-count-requires : tie.Need-word-count-requires
 word-count-requires c κs = search needs

@@ -11,7 +11,7 @@ table-in-requires : tie.Need-table-in-requires
 table-in-requires c κs = search needs
 
 read-counts-requires : tie.Need-read-counts-requires
-read-counts-requires c κs = let h = holds-facts _ (c .before .before .before .before .before .before .before .before .pre) in omega arith
+read-counts-requires c κs = let h = holds-facts _ _ (c .before .before .before .before .before .before .before .before .pre) in omega arith
 
 word-count-requires : tie.Need-word-count-requires
 word-count-requires c κs = search needs
