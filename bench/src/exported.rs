@@ -4,7 +4,7 @@
 use std::hint::black_box;
 
 use crate::calls::{self, Funnel};
-use crate::funnels::{CAP, SEED, identity};
+use crate::funnels::{CAP, SEED, identity, orders};
 use crate::measure::Table;
 
 /// Declares calls for C: numbers, then the state block, words and flags, then what else is lent, and the answer block.
@@ -125,18 +125,29 @@ pub fn rows(table: &mut Table) {
 }
 
 fn placing(table: &mut Table, size: &str, members: &[u64], ours: &mut Lent, core: &mut Funnel) {
+    let orders = orders(members);
     let mut slots = [vec![0; members.len()], vec![0; members.len()]];
     let [mine, other] = &mut slots;
+    let (mut first, mut second) = (orders.iter().cycle(), orders.iter().cycle());
     table.row_after(&format!("exported: place_all filling, {size}"), members.len(), ours, core, Lent::clear, Funnel::clear, |ours| {
-        assert_eq!(ours.place_all(members, mine), 0);
+        assert_eq!(ours.place_all(first.next().unwrap(), mine), 0);
     }, |core| {
-        assert!(core.place_all(members, other));
+        assert!(core.place_all(second.next().unwrap(), other));
     });
     assert_eq!(mine, other);
     table.row(&format!("exported: place_all hits, {size}"), members.len(), || {
         assert_eq!(ours.place_all(members, mine), 0);
     }, || {
         assert!(core.place_all(members, other));
+    });
+    table.row(&format!("exported: place_all hits in {} orders, {size}", orders.len()), orders.len() * members.len(), || {
+        for order in &orders {
+            assert_eq!(ours.place_all(order, mine), 0);
+        }
+    }, || {
+        for order in &orders {
+            assert!(core.place_all(order, other));
+        }
     });
 }
 

@@ -22,6 +22,18 @@ pub fn identity(k: u64) -> u64 {
     x ^ (x >> 31)
 }
 
+/// Orders of some identities, some 2^18 in all: one order again and again is soon known to a processor's branch prediction by heart.
+pub fn orders(identities: &[u64]) -> Vec<Vec<u64>> {
+    let many = ((1 << 18) / identities.len()).max(1) as u64;
+    (0..many).map(|k| {
+        let mut order = identities.to_vec();
+        for i in (1..order.len()).rev() {
+            order.swap(i, (identity(k << 32 | i as u64) % (i as u64 + 1)) as usize);
+        }
+        order
+    }).collect()
+}
+
 fn rust_table(n: u64, e: u32) -> ScalarFunnel<FunnelPrf> {
     let config = PaperConfig::new(n as usize, e).unwrap();
     ScalarFunnel::new(config, FunnelPrf::new(SEED), NonZeroU32::new(CAP as u32).unwrap())
