@@ -13,23 +13,16 @@
 // A program of this language has no exit status of its own; `bin/examine` gives one, from that line.
 //
 //     main.rt      arguments and the file
-//     header.rt    n, e and seed
 //     table.rt     from the bytes of an image to a loaded table
-//     summary.rt   what the table is
 //     verdict.rt   what the check says of it, as numbers
-//     telling.rt   the same in words
-//     say.rt       refusals, text and shares in words
 //
+// What is printed of it is `examine_words`, which is proved beside the calls.
 // It uses the public calls alone: `load_image`, `check`, `search`.
-mod header;
-mod say;
-mod summary;
 mod table;
-mod telling;
 mod verdict;
 
+use examine_words::say::put_text;
 use funnel_calls::calls::MOST_WORDS;
-use say::put_text;
 use table::examine;
 use table::refuse_length;
 use text::buffers::MOST_BYTES;
