@@ -48,16 +48,24 @@ fn report(out: &mut [u8]) {
 // The arguments, and then the file that the first one names.
 fn run(out: &mut [u8]) -> usize {
     let count = os::arg_count();
-    if count < 2 {
-        return misuse(b"no image is named", out, 0);
-    }
-    if 3 < count {
-        return misuse(b"there are more than two arguments", out, 0);
+    if count < 2 || 3 < count {
+        return misuse_by(count, out);
     }
     let cap = word_cap(count);
     if cap == 0 {
         return misuse(b"the word cap is not a number from 1 to 256", out, 0);
     }
+    examine_named(cap, out)
+}
+
+fn misuse_by(count: usize, out: &mut [u8]) -> usize {
+    if count < 2 {
+        return misuse(b"no image is named", out, 0);
+    }
+    misuse(b"there are more than two arguments", out, 0)
+}
+
+fn examine_named(cap: u64, out: &mut [u8]) -> usize {
     let mut path = io::buffer();
     let length = os::arg(1, &mut path);
     if os::errno() != 0 {

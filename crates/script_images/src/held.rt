@@ -115,6 +115,19 @@ fn done(
     if task.letter == RUN {
         return run(task.run, line, table, counts, words, flags, out, at);
     }
+    on_image(task, line, table, counts, words, flags, out, at)
+}
+
+fn on_image(
+    task: Task,
+    line: &[u8],
+    table: FunnelTable,
+    counts: &[u64; 118],
+    words: &mut [u64],
+    flags: &mut [u8],
+    out: &mut [u8],
+    at: usize,
+) -> usize {
     if task.letter == LOAD {
         return load::run(task, line, table, counts, words, flags, out, at);
     }
