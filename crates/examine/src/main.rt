@@ -13,23 +13,16 @@
 // A program of this language has no exit status of its own; `bin/examine` gives one, from that line.
 //
 //     main.rt      arguments and the file
-//     header.rt    n, e and seed
 //     table.rt     from the bytes of an image to a loaded table
-//     summary.rt   what the table is
 //     verdict.rt   what the check says of it, as numbers
-//     telling.rt   the same in words
-//     say.rt       refusals, text and shares in words
 //
+// What is printed of it is `examine_words`, which is proved beside the calls.
 // It uses the public calls alone: `load_image`, `check`, `search`.
-mod header;
-mod say;
-mod summary;
 mod table;
-mod telling;
 mod verdict;
 
+use examine_words::say::put_text;
 use funnel_calls::calls::MOST_WORDS;
-use say::put_text;
 use table::examine;
 use table::refuse_length;
 use text::buffers::MOST_BYTES;
@@ -55,16 +48,24 @@ fn report(out: &mut [u8]) {
 // The arguments, and then the file that the first one names.
 fn run(out: &mut [u8]) -> usize {
     let count = os::arg_count();
-    if count < 2 {
-        return misuse(b"no image is named", out, 0);
-    }
-    if 3 < count {
-        return misuse(b"there are more than two arguments", out, 0);
+    if count < 2 || 3 < count {
+        return misuse_by(count, out);
     }
     let cap = word_cap(count);
     if cap == 0 {
         return misuse(b"the word cap is not a number from 1 to 256", out, 0);
     }
+    examine_named(cap, out)
+}
+
+fn misuse_by(count: usize, out: &mut [u8]) -> usize {
+    if count < 2 {
+        return misuse(b"no image is named", out, 0);
+    }
+    misuse(b"there are more than two arguments", out, 0)
+}
+
+fn examine_named(cap: u64, out: &mut [u8]) -> usize {
     let mut path = io::buffer();
     let length = os::arg(1, &mut path);
     if os::errno() != 0 {

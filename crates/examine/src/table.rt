@@ -1,14 +1,14 @@
 // From the bytes of an image to a loaded table, or to what keeps it from being one.
-use crate::header::Given;
-use crate::header::Header;
-use crate::header::read_header;
-use crate::say::put_gate;
-use crate::say::put_hex_byte;
-use crate::summary::put_given;
-use crate::summary::put_label;
-use crate::summary::put_members;
-use crate::telling::put_verdict;
 use crate::verdict::judge;
+use examine_words::header::Given;
+use examine_words::header::Header;
+use examine_words::header::read_header;
+use examine_words::say::put_gate;
+use examine_words::say::put_hex_byte;
+use examine_words::summary::put_given;
+use examine_words::summary::put_label;
+use examine_words::summary::put_members;
+use examine_words::telling::put_verdict;
 use funnel::table::FunnelTable;
 use funnel::table::OpenAnswer;
 use funnel_calls::calls::open;

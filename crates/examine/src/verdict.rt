@@ -1,7 +1,19 @@
 // What the check finds of a loaded table, and why a member could not be placed. It is worked out as plain numbers, by
-// functions that do not hold the output; `telling.rt` prints it.
+// functions that do not hold the output; `examine_words` prints it.
 use audit_calls::check::Checked;
 use audit_calls::check::check;
+use examine_words::telling::BLOCKED;
+use examine_words::telling::COPY;
+use examine_words::telling::FULL;
+use examine_words::telling::GATE;
+use examine_words::telling::Met;
+use examine_words::telling::OFF_PATH;
+use examine_words::telling::RANGE;
+use examine_words::telling::REACHED;
+use examine_words::telling::Stuck;
+use examine_words::telling::UNASKED;
+use examine_words::telling::VACANT;
+use examine_words::telling::Verdict;
 use funnel::table::FunnelTable;
 use funnel::table::Search;
 use funnel::table::SearchAnswer;
@@ -9,56 +21,6 @@ use funnel::table::slot_of;
 use funnel_calls::calls::search;
 use refusal::Gate;
 use text::buffers::word_buffer;
-
-// What the check says of a table.
-pub enum Verdict {
-    Accepted,
-    Gate(Gate),
-    Dirty { slot: u64 },
-    Disorder(Stuck),
-}
-
-// Where the check is stuck: members placed, the smallest occupied slot that is not, what it holds, and what a search for that
-// meets.
-pub struct Stuck {
-    pub placed: u64,
-    pub slot: u64,
-    pub identity: u64,
-    pub met: Met,
-}
-
-// What a search meets: its kind, and a number.
-pub struct Met {
-    pub kind: u8,
-    pub number: u64,
-}
-
-// A refusal of the gate by its number.
-pub const GATE: u8 = b'g';
-
-// A vacancy, at a slot.
-pub const VACANT: u8 = b'v';
-
-// Neither a vacancy nor the identity: it read its whole path.
-pub const OFF_PATH: u8 = b'o';
-
-// RANGE, with its words.
-pub const RANGE: u8 = b'r';
-
-// The identity at another slot.
-pub const COPY: u8 = b'c';
-
-// The identity in its slot, and, over the placed part, a vacancy at a slot.
-pub const BLOCKED: u8 = b'b';
-
-// The identity in its slot, and the maximum is placed without it.
-pub const FULL: u8 = b'f';
-
-// The identity in its slot, and nothing that says why it is not placed.
-pub const REACHED: u8 = b's';
-
-// The identity in its slot, and over the placed part a refusal of the gate by its number.
-pub const UNASKED: u8 = b'u';
 
 // The verdict on a loaded table.
 pub fn judge(table: FunnelTable, counts: &[u64; 118], words: &[u64], flags: &[u8]) -> Verdict {

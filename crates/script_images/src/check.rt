@@ -1,11 +1,5 @@
 // CHECK n e seed cap COUNT ENTRIES: the check of a table that holds the entries. COUNT is the state's count; on entry
 // marks hold 9 and order all ones.
-use crate::buffers::all_bytes;
-use crate::buffers::all_words_from;
-use crate::buffers::are_marks;
-use crate::buffers::fill_bytes;
-use crate::buffers::fill_words;
-use crate::buffers::put_kept;
 use audit_calls::check::Checked;
 use audit_calls::check::check;
 use funnel::table::FunnelTable;
@@ -17,6 +11,12 @@ use script::print::put_said;
 use script::print::say_fields;
 use script::print::say_gate;
 use script::print::say_refused_with;
+use script_tasks::buffers::all_bytes;
+use script_tasks::buffers::all_words_from;
+use script_tasks::buffers::are_marks;
+use script_tasks::buffers::fill_bytes;
+use script_tasks::buffers::fill_words;
+use script_tasks::buffers::put_kept;
 use text::buffers::word_buffer;
 use text::out::put_byte;
 use text::out::put_joined;

@@ -1,9 +1,6 @@
 // A table opened in buffers of its length, and the task done on it.
 use crate::check;
-use crate::entries::put_entries;
 use crate::load;
-use crate::request::Task;
-use crate::request::asked_by;
 use crate::write;
 use funnel::table::FunnelTable;
 use funnel::table::OpenAnswer;
@@ -16,6 +13,9 @@ use script::word::LOAD;
 use script::word::RUN;
 use script::word::WRITE;
 use script_funnel::runs::run;
+use script_tasks::entries::put_entries;
+use script_tasks::request::Task;
+use script_tasks::request::asked_by;
 use text::buffers::word_buffer;
 
 // The answer to a command by its letter; a run may be in bulk.
@@ -115,6 +115,19 @@ fn done(
     if task.letter == RUN {
         return run(task.run, line, table, counts, words, flags, out, at);
     }
+    on_image(task, line, table, counts, words, flags, out, at)
+}
+
+fn on_image(
+    task: Task,
+    line: &[u8],
+    table: FunnelTable,
+    counts: &[u64; 118],
+    words: &mut [u64],
+    flags: &mut [u8],
+    out: &mut [u8],
+    at: usize,
+) -> usize {
     if task.letter == LOAD {
         return load::run(task, line, table, counts, words, flags, out, at);
     }

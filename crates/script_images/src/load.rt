@@ -1,11 +1,4 @@
 // LOAD n e seed cap HEX: an image into a table whose every word is slot + 1, every flag 1, and whose count is 0.
-use crate::buffers::all_bytes;
-use crate::buffers::count_up;
-use crate::buffers::do_count_up;
-use crate::buffers::fill_bytes;
-use crate::buffers::put_kept;
-use crate::bytes::spell;
-use crate::request::Task;
 use funnel::table::FunnelTable;
 use image_calls::calls::Loaded;
 use image_calls::calls::load_image;
@@ -18,6 +11,13 @@ use script::print::say_fields;
 use script::print::say_gate;
 use script::print::say_refused;
 use script::print::say_refused_with;
+use script_tasks::buffers::all_bytes;
+use script_tasks::buffers::count_up;
+use script_tasks::buffers::do_count_up;
+use script_tasks::buffers::fill_bytes;
+use script_tasks::buffers::put_kept;
+use script_tasks::bytes::spell;
+use script_tasks::request::Task;
 use text::buffers::image_buffer;
 
 // The call on a fresh table, and its answer.

@@ -1,8 +1,4 @@
 // WRITE n e seed cap LABELHEX ROOM ENTRIES: the image of a table that holds the entries, into ROOM bytes.
-use crate::bytes::put_bytes;
-use crate::bytes::spell;
-use crate::request::Task;
-use crate::request::room_of;
 use funnel::table::FunnelTable;
 use image_calls::calls::write_image;
 use image_calls::writer::Written;
@@ -14,6 +10,10 @@ use script::print::say_fields;
 use script::print::say_gate;
 use script::print::say_refused;
 use script::print::say_refused_with;
+use script_tasks::bytes::put_bytes;
+use script_tasks::bytes::spell;
+use script_tasks::request::Task;
+use script_tasks::request::room_of;
 use text::buffers::image_buffer;
 use text::out::put_byte;
 
