@@ -140,7 +140,7 @@ fn placing(table: &mut Table, size: &str, members: &[u64], ours: &mut Lent, core
     }, || {
         assert!(core.place_all(members, other));
     });
-    table.row(&format!("exported: place_all hits in {} orders, {size}", orders.len()), orders.len() * members.len(), || {
+    table.row(&format!("exported: place_all hits in other orders, {size}"), orders.len() * members.len(), || {
         for order in &orders {
             assert_eq!(ours.place_all(order, mine), 0);
         }
