@@ -24,11 +24,11 @@ use Rattle.funnel.specs.declared.table.FunnelTable.{FunnelTable}
 use Rattle.funnel.specs.declared.table.Search.{Search}
 use Rattle.funnel.specs.declared.table.Insertion.{Insertion}
 use Rattle.funnel.specs.declared.table.Insertion.the-variants as insertion
-use Rattle.gridder.specs.Answer.{answerLength, says, saying, searchFields, insertionFields, Reply, reply}
+use Rattle.gridder_answer.specs.Answer.{answerLength, says, saying, searchFields, insertionFields, Reply, reply}
 use Rattle.gridder_calls.specs.Calls.{callGate, stateGate, searchReply, searchCall, left, countedIn, insertLeft, insertCall}
 use Rattle.lent.specs.Lent.{wordsOf, wordCount}
 use Rattle.lent.specs.LentLaws.{length-whole, count-some}
-use Rattle.gridder.specs.State.{holdsFunnel, tableIn, countsIn, withCountIn}
+use Rattle.gridder_state.specs.State.{holdsFunnel, tableIn, countsIn, withCountIn}
 use Rattle.lent.specs.Valid.{ValidLent}
 
 -- ---- the gate

@@ -1,5 +1,2 @@
-pub mod CallLaws
 pub mod Calls
-pub mod OpenLaws
-pub mod Place
-pub mod PlaceLaws
+pub mod CallLaws

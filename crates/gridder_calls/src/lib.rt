@@ -1,10 +1,9 @@
-// The calls for C on funnel tables, past the test that the state block holds one. Words are lent as little-endian bytes, eight to a word,
-// and crate `lent` walks the base's path over them; no table is copied.
+// The calls for C on funnel tables, past the test that the state block holds one: search and insertion. An opening is in `gridder_open`, the
+// placement of many identities in `gridder_place`. Words are lent as little-endian bytes, eight to a word; `lent_search` and `lent_insert`
+// walk the base's path over them, and no table is copied.
 //
-//     funnels.rt  open, search, insert
-//     placing.rt  many identities
+//     funnels.rt    search, insertion, and the gate of every call on a table
 //
-// specs/Calls.antt and Place.antt say what each call answers and leaves.
+// specs/Calls.antt says what each call answers and leaves.
 
 pub mod funnels;
-pub mod placing;

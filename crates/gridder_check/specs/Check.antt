@@ -17,8 +17,8 @@ use Rattle.audit_calls.specs.Check.{Ended, auditOf, checkGate, reportOf}
 use Rattle.audit_calls.specs.declared.check.Checked.{Checked}
 use Rattle.audit_calls.specs.declared.check.Checked.the-variants as checked
 use Rattle.lent.specs.Lent.{wordsOf, wordCount}
-use Rattle.gridder.specs.Answer.{answerLength, Field, field, slotAt, placedAt, says, saying}
-use Rattle.gridder.specs.State.{holdsFunnel, tableIn, countsIn}
+use Rattle.gridder_answer.specs.Answer.{answerLength, Field, field, slotAt, placedAt, says, saying}
+use Rattle.gridder_state.specs.State.{holdsFunnel, tableIn, countsIn}
 
 -- the tests 1 to 7 of a check, by the numbers of words and of places in the order, and the lengths of flags, marks and answer block
 unfoldable pub checkCallGate : FunnelTable → List ℕ → (words flags marks order answer : ℕ) → Gated

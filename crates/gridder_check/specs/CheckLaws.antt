@@ -23,9 +23,9 @@ use Rattle.audit_calls.specs.declared.check.Checked.{Checked}
 use Rattle.lent.specs.Lent.{wordsOf, wordCount}
 use Rattle.lent.specs.LentLaws.{count-some}
 use Rattle.lent_check.specs.Valid.{CheckLent}
-use Rattle.gridder.specs.Answer.{answerLength, says, saying, Reply, reply}
+use Rattle.gridder_answer.specs.Answer.{answerLength, says, saying, Reply, reply}
 use Rattle.gridder_calls.specs.CallLaws.{lent-valid}
-use Rattle.gridder.specs.State.{holdsFunnel, tableIn, countsIn}
+use Rattle.gridder_state.specs.State.{holdsFunnel, tableIn, countsIn}
 use Rattle.gridder_check.specs.Check.{checkCallGate, checkedFields, checkLeft, checkBy, checkCall}
 
 -- what a check says, by its answer

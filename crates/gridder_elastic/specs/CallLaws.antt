@@ -30,11 +30,11 @@ use Rattle.elastic.specs.declared.state.Limits.{Limits}
 use Rattle.elastic.specs.declared.state.State.{State}
 use Rattle.lent.specs.Lent.{wordsOf, wordCount}
 use Rattle.lent.specs.LentLaws.{length-whole, count-some}
-use Rattle.gridder.specs.Answer.{answerLength, says, saying, Reply, reply}
+use Rattle.gridder_answer.specs.Answer.{answerLength, says, saying, Reply, reply}
 use Rattle.gridder_calls.specs.Calls.{left}
 use Rattle.gridder_elastic.specs.Calls.{callGate, stateGate, queryReply, queryCall, countedIn, insertLeft, insertCall}
-use Rattle.gridder_elastic.specs.Say.{insertFields, queryFields}
-use Rattle.gridder_elastic.specs.State.{holdsElastic, stateIn, countsIn, elasticBlock, withCountsIn}
+use Rattle.gridder_elastic_answer.specs.Say.{insertFields, queryFields}
+use Rattle.gridder_elastic_state.specs.State.{holdsElastic, stateIn, countsIn, elasticBlock, withCountsIn}
 use Rattle.lent_elastic.specs.Valid.{ValidLent}
 
 -- ---- the gate

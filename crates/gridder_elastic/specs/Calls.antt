@@ -19,11 +19,12 @@ use Rattle.elastic_query.specs.declared.query.QueryAnswer.{QueryAnswer}
 use Rattle.elastic.specs.declared.state.Limits.{Limits}
 use Rattle.elastic.specs.declared.state.State.{State}
 use Rattle.lent.specs.Lent.{wordsOf, wordCount}
-use Rattle.gridder.specs.Answer.{answerLength, says, saying, Reply, reply}
-use Rattle.gridder_calls.specs.Calls.{Left, left, openSaying}
-use Rattle.gridder.specs.State.{stateLength}
-use Rattle.gridder_elastic.specs.Say.{insertFields, queryFields}
-use Rattle.gridder_elastic.specs.State.{holdsElastic, stateIn, countsIn, elasticBlock, withCountsIn}
+use Rattle.gridder_answer.specs.Answer.{answerLength, says, saying, Reply, reply}
+use Rattle.gridder_calls.specs.Calls.{Left, left}
+use Rattle.gridder_open.specs.Open.{openSaying}
+use Rattle.gridder_state.specs.State.{stateLength}
+use Rattle.gridder_elastic_answer.specs.Say.{insertFields, queryFields}
+use Rattle.gridder_elastic_state.specs.State.{holdsElastic, stateIn, countsIn, elasticBlock, withCountsIn}
 
 -- ---- the gate: "a block of another length .. is STATE, tested with the other buffers"
 

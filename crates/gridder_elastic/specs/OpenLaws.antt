@@ -21,12 +21,13 @@ use Rattle.elastic.specs.declared.state.Limits.{Limits}
 use Rattle.elastic.specs.declared.state.State.{State}
 use Rattle.lent.specs.Lent.{wordsOf, wordCount}
 use Rattle.lent.specs.LentLaws.{count-some, words-zeros}
-use Rattle.gridder.specs.Answer.{answerLength, says, Reply, reply}
-use Rattle.gridder.specs.AnswerLaws.{says-none}
-use Rattle.gridder_calls.specs.Calls.{left, openSaying}
-use Rattle.gridder.specs.State.{stateLength}
+use Rattle.gridder_answer.specs.Answer.{answerLength, says, Reply, reply}
+use Rattle.gridder_answer.specs.AnswerLaws.{says-none}
+use Rattle.gridder_calls.specs.Calls.{left}
+use Rattle.gridder_open.specs.Open.{openSaying}
+use Rattle.gridder_state.specs.State.{stateLength}
 use Rattle.gridder_elastic.specs.Calls.{openBlocksGate, openLeft, openCall, Fresh}
-use Rattle.gridder_elastic.specs.State.{elasticBlock}
+use Rattle.gridder_elastic_state.specs.State.{elasticBlock}
 
 -- ---- the gate, test by test
 

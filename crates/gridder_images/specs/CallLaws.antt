@@ -25,13 +25,13 @@ use Rattle.image_calls.specs.declared.loader.Filled.the-variants as filled
 use Rattle.image_calls.specs.declared.writer.Written.{Written}
 use Rattle.lent.specs.Lent.{wordsOf, wordCount}
 use Rattle.lent.specs.LentLaws.{count-some}
-use Rattle.gridder.specs.Answer.{answerLength, says, saying, Reply, reply}
+use Rattle.gridder_answer.specs.Answer.{answerLength, says, saying, Reply, reply}
 use Rattle.gridder_calls.specs.Calls.{callGate, stateGate, left}
-use Rattle.gridder.specs.State.{holdsFunnel, tableIn, countsIn, withCountIn}
+use Rattle.gridder_state.specs.State.{holdsFunnel, tableIn, countsIn, withCountIn}
 use Rattle.gridder_images.specs.Calls.{filledIn, loadLeft, loadCall, sent, writeCallGate, writeStateGate, writeLeft, writeCall}
 use Rattle.gridder_images.specs.Say.{filledFields, filledNumber, writtenFields}
 use Rattle.gridder_images.specs.SayLaws.{loaded-number}
-use Rattle.gridder_images.specs.Write.{wrote, wroteOf}
+use Rattle.lent_images.specs.Write.{wrote, wroteOf}
 
 -- ---- loading
 

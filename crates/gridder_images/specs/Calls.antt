@@ -18,11 +18,11 @@ use Rattle.image_calls.specs.Loading.{Loads, loadOf}
 use Rattle.image_calls.specs.declared.loader.Filled.{Filled}
 use Rattle.image_calls.specs.declared.loader.Filled.the-variants as filled
 use Rattle.lent.specs.Lent.{wordsOf, wordCount}
-use Rattle.gridder.specs.Answer.{answerLength, says, saying}
+use Rattle.gridder_answer.specs.Answer.{answerLength, says, saying}
 use Rattle.gridder_calls.specs.Calls.{stateGate, Left, left}
-use Rattle.gridder.specs.State.{holdsFunnel, tableIn, countsIn, withCountIn}
+use Rattle.gridder_state.specs.State.{holdsFunnel, tableIn, countsIn, withCountIn}
 use Rattle.gridder_images.specs.Say.{filledFields, writtenFields}
-use Rattle.gridder_images.specs.Write.{Wrotes, wroteOf}
+use Rattle.lent_images.specs.Write.{Wrotes, wroteOf}
 
 -- ---- loading
 

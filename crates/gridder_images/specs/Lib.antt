@@ -1,7 +1,4 @@
-pub mod Write
 pub mod Say
-pub mod Calls
-pub mod FillLaws
-pub mod WriteLaws
 pub mod SayLaws
+pub mod Calls
 pub mod CallLaws

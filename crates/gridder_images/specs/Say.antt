@@ -7,7 +7,7 @@ use Rattle.image_calls.specs.declared.loader.Filled.{Filled}
 use Rattle.image_calls.specs.declared.loader.Filled.the-variants as filled
 use Rattle.image_calls.specs.declared.writer.Written.{Written}
 use Rattle.image_calls.specs.declared.writer.Written.the-variants as written
-use Rattle.gridder.specs.Answer.{Field, field, slotAt}
+use Rattle.gridder_answer.specs.Answer.{Field, field, slotAt}
 
 -- ---- the offsets
 

@@ -1,13 +1,13 @@
-// What the calls on images say, in the answer block of crate gridder.
+// What the calls on images say, in the answer block (`gridder_answer`).
 ghost use mathlib.Core.Path.{_≡_};
 ghost use lib.ListN.{length};
 ghost use Rattle.image_calls.specs.Calls.{writtenReport};
-ghost use Rattle.gridder.specs.Answer.{says, reply};
+ghost use Rattle.gridder_answer.specs.Answer.{says, reply};
 ghost use Rattle.gridder_images.specs.Say.{filledFields, filledNumber, writtenFields};
-use gridder::answer::SLOT;
-use gridder::answer::say_both;
-use gridder::answer::say_gate;
-use gridder::answer::say_number;
+use gridder_answer::answer::SLOT;
+use gridder_answer::answer::say_both;
+use gridder_answer::answer::say_gate;
+use gridder_answer::answer::say_number;
 use image_calls::loader::Filled;
 use image_calls::writer::Written;
 use refusal::Name;

@@ -2,8 +2,8 @@
 ghost use mathlib.Core.Path.{_≡_};
 ghost use Rattle.gridder_check.specs.Check.{checkCall, checkLeft};
 ghost use Rattle.lent.specs.Lent.{wordsOf};
-use gridder::state::holds_funnel;
 use gridder_check::call::check_in;
+use gridder_state::state::holds_funnel;
 use refusal::Name;
 use refusal::number;
 

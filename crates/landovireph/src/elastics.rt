@@ -1,19 +1,19 @@
 // The calls for C on elastic tables. Each requires nothing.
 ghost use mathlib.Core.Path.{_≡_};
-ghost use Rattle.gridder.specs.Answer.{reply};
+ghost use Rattle.gridder_answer.specs.Answer.{reply};
 ghost use Rattle.gridder_calls.specs.Calls.{left};
 ghost use Rattle.gridder_elastic.specs.Calls.{insertCall, limitsOf, openCall, queryCall};
 ghost use Rattle.lent.specs.Lent.{wordsOf};
 use elastic::state::Limits;
 use elastic::state::State;
 use geometry::config::Gated;
-use gridder_calls::funnels::refuse_open;
 use gridder_elastic::calls::fresh;
 use gridder_elastic::calls::insert_in;
 use gridder_elastic::calls::open_blocks_gate;
 use gridder_elastic::calls::open_in;
 use gridder_elastic::calls::query_in;
-use gridder_elastic::state::holds_elastic;
+use gridder_elastic_state::state::holds_elastic;
+use gridder_open::open::refuse_open;
 use lent::word::word_count;
 use refusal::Name;
 use refusal::number;

@@ -1,18 +1,19 @@
 // The calls for C on funnel tables. Each requires nothing.
 ghost use mathlib.Core.Path.{_≡_};
 ghost use Rattle.geometry.specs.declared.config.Gated.the-variants.{Passed};
-ghost use Rattle.gridder.specs.Answer.{reply};
-ghost use Rattle.gridder_calls.specs.Calls.{OpensLent, insertCall, left, searchCall};
-ghost use Rattle.gridder_calls.specs.Place.{allLeft, placeCall};
+ghost use Rattle.gridder_answer.specs.Answer.{reply};
+ghost use Rattle.gridder_calls.specs.Calls.{insertCall, left, searchCall};
+ghost use Rattle.gridder_open.specs.Open.{OpensLent};
+ghost use Rattle.gridder_place.specs.Place.{allLeft, placeCall};
 ghost use Rattle.lent.specs.Lent.{wordsOf};
 use geometry::config::Gated;
-use gridder::state::holds_funnel;
 use gridder_calls::funnels::insert_in;
-use gridder_calls::funnels::open_blocks_gate;
-use gridder_calls::funnels::open_in;
-use gridder_calls::funnels::refuse_open;
 use gridder_calls::funnels::search_in;
-use gridder_calls::placing::place_in;
+use gridder_open::open::open_blocks_gate;
+use gridder_open::open::open_in;
+use gridder_open::open::refuse_open;
+use gridder_place::placing::place_in;
+use gridder_state::state::holds_funnel;
 use lent::word::word_count;
 use refusal::Name;
 use refusal::number;

@@ -3,9 +3,9 @@ ghost use mathlib.Core.Path.{_≡_};
 ghost use Rattle.gridder_calls.specs.Calls.{left};
 ghost use Rattle.gridder_images.specs.Calls.{loadCall, sent, writeCall};
 ghost use Rattle.lent.specs.Lent.{wordsOf};
-use gridder::state::holds_funnel;
 use gridder_images::calls::load_in;
 use gridder_images::calls::write_in;
+use gridder_state::state::holds_funnel;
 use refusal::Name;
 use refusal::number;
 

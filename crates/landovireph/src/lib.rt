@@ -2,7 +2,7 @@
 // crates that do the work: `gridder_calls` (funnel tables), `gridder_images`, `gridder_check`, `gridder_elastic`. They stand in one crate
 // because an archive has the functions of one crate, and in so thin a one because making the archive proves it again.
 //
-// The layout of the blocks is at the head of `gridder`'s lib.rt; `include/landovireph.h` is the manual.
+// The layout of the blocks is at the heads of the lib.rt of `gridder_state` and `gridder_answer`; `include/landovireph.h` is the manual.
 
 pub mod check;
 pub mod elastics;

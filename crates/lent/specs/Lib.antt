@@ -2,5 +2,3 @@ pub mod Lent
 pub mod LentLaws
 pub mod Valid
 pub mod ValidLaws
-pub mod PutLaws
-pub mod PlaceLaws

@@ -1,19 +1,10 @@
-// Funnel tables whose words are lent as little-endian bytes, eight to a word: the base's walk over another storage. The calls for C
-// stand on it.
+// Words lent as little-endian bytes, eight to a word, as the calls for C get them: what they are, and how one is read.
 //
-// Only what reads or writes words is written again. Draws, keys, the gate and the laws of the path are the base's own, and so are the
-// definitions: a contract here speaks of the words that the bytes are.
+// The base's walks are written again over this storage in the crates above: `lent_search` and `lent_insert` for funnel tables, `lent_elastic`
+// for elastic ones, `lent_check` for the check. A contract there speaks of the words that the bytes are, so the definitions are the base's own.
 //
-//     word.rt       words in bytes
-//     scan.rt       walks over slots, the only readers of the buffers
-//     walk.rt       the stages of a path, and the search along all of it, in a valid table
-//     put.rt        insertion into a valid table
-//     place_all.rt  many insertions into a valid table
+//     word.rt    the word of a slot, and how many words some bytes are
 //
-// specs/Lent.antt says what words lent as bytes are, Valid.antt when a table of them is valid.
+// specs/Lent.antt says what words lent as bytes are, Valid.antt when a funnel table of them is valid.
 
-pub mod place_all;
-pub mod put;
-pub mod scan;
-pub mod walk;
 pub mod word;

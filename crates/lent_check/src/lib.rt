@@ -1,6 +1,6 @@
 // The check of a funnel table whose words are lent as little-endian bytes, and its order too: audit's check over another storage.
 //
-// Only what reads words or reads and writes the order is written again. The search is lent's, but for a walk over the levels of its
+// Only what reads words or reads and writes the order is written again. The search is lent_search's, but for a walk over the levels of its
 // own; what touches marks alone (the queue of candidates, the chains of those that wait) is called as audit calls it, and the
 // definitions and their laws are audit's.
 //

@@ -13,9 +13,9 @@ use funnel::table::FunnelTable;
 use funnel::table::Search;
 use funnel::table::Stop;
 use funnel::table::slot_of;
-use lent::scan::pass;
-use lent::walk::find;
 use lent::word::word_at;
+use lent_search::scan::pass;
+use lent_search::walk::find;
 use probe::word::funnel_key;
 
 // Whether a slot is ready, with some placed.
@@ -49,7 +49,7 @@ pub fn is_ready(
     }
 }
 
-// The slot that the levels settle a search of the placed part with. This is the walk of `lent::walk::pass_levels` once more, as in
+// The slot that the levels settle a search of the placed part with. This is the walk of `lent_search::walk::pass_levels` once more, as in
 // audit's ready.rt: a walk is compiled into its caller only where it has no other, and both loops gain by that.
 fn pass_placed(
     table: FunnelTable,

@@ -9,8 +9,8 @@ ghost use Rattle.lent.specs.Lent.{wordsOf};
 ghost use Rattle.lent.specs.Valid.{ValidLent};
 use funnel::table::FunnelTable;
 use funnel::table::Search;
-use lent::walk::find_ordinary;
 use lent::word::word_at;
+use lent_search::walk::find_ordinary;
 
 // Gives a verdict on each special slot, in its own mark: 1 for a slot that is live.
 pub fn judge(

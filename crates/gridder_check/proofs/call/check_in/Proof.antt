@@ -1,7 +1,7 @@
 -- `gridder_check::call::check_in` meets its contract. By what its gate said of the table in the block. Assumes nothing.
 use denote.Ref.{now}
 use native.Mathlib.Omega.{arith}
-use Rattle.gridder.specs.StateLaws.{holds-facts}
+use Rattle.gridder_state.specs.StateLaws.{holds-facts}
 use Rattle.gridder_check.specs.CheckLaws.{checking-ready, checking-refused, checking-passed}
 use borrow.Author.Needs.{needs}
 use Rattle.gridder_check.proofs.call.check_in.Statement.{statement}

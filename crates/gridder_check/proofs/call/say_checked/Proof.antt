@@ -1,7 +1,7 @@
 -- `gridder_check::call::say_checked` meets its contract. Case by case. Assumes nothing.
 use mathlib.Core.Path.{refl}
 use Rattle.gridder_check.specs.CheckLaws.{checked-says}
-use Rattle.gridder.specs.AnswerLaws.{gate-says}
+use Rattle.gridder_answer.specs.AnswerLaws.{gate-says}
 use borrow.Author.Needs.{needs}
 use Rattle.gridder_check.proofs.call.say_checked.Statement.{statement}
 use Rattle.gridder_check.proofs.call.say_checked.Tie as tie

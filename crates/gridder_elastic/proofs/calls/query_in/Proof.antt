@@ -1,7 +1,7 @@
 -- `gridder_elastic::calls::query_in` meets its contract. By what its gate said of the table in the block. Assumes nothing.
 use denote.Ref.{now}
 use native.Mathlib.Omega.{arith}
-use Rattle.gridder.specs.StateLaws.{holds-facts}
+use Rattle.gridder_state.specs.StateLaws.{holds-facts}
 use Rattle.gridder_elastic.specs.CallLaws.{gate-ready, query-refused, query-passed}
 use borrow.Author.Needs.{needs}
 use Rattle.gridder_elastic.proofs.calls.query_in.Statement.{statement}

@@ -1,7 +1,7 @@
 -- `gridder_images::calls::load_in` meets its contract. By what its gate said of the table in the block. Assumes nothing.
 use Rattle.gridder_images.specs.CallLaws.{load-refused, load-passed}
 use Rattle.gridder_calls.specs.CallLaws.{gate-ready}
-use Rattle.gridder.specs.StateLaws.{holds-facts}
+use Rattle.gridder_state.specs.StateLaws.{holds-facts}
 use native.Mathlib.Omega.{arith}
 use denote.Ref.{now}
 use borrow.Author.Needs.{needs}

@@ -1,6 +1,6 @@
 -- `gridder_images::calls::write_in` meets its contract. By what its gate said of the table in the block. Assumes nothing.
 use Rattle.gridder_images.specs.CallLaws.{write-ready, write-refused, write-passed}
-use Rattle.gridder.specs.StateLaws.{holds-facts}
+use Rattle.gridder_state.specs.StateLaws.{holds-facts}
 use native.Mathlib.Omega.{arith}
 use denote.Ref.{now}
 use borrow.Author.Needs.{needs}

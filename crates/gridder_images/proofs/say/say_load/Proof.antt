@@ -1,7 +1,7 @@
 -- `gridder_images::say::say_load` meets its contract. Case by case. Assumes nothing.
 use mathlib.Core.Path.{refl, _∙_}
 use Rattle.gridder_images.specs.SayLaws.{load-says}
-use Rattle.gridder.specs.AnswerLaws.{says-none}
+use Rattle.gridder_answer.specs.AnswerLaws.{says-none}
 use borrow.Author.Needs.{needs}
 use Rattle.gridder_images.proofs.say.say_load.Statement.{statement}
 use Rattle.gridder_images.proofs.say.say_load.Tie as tie

@@ -1,7 +1,7 @@
 -- `gridder_images::say::say_write` meets its contract. Case by case. Assumes nothing.
 use mathlib.Core.Path.{refl}
 use Rattle.gridder_images.specs.SayLaws.{write-says}
-use Rattle.gridder.specs.AnswerLaws.{gate-says}
+use Rattle.gridder_answer.specs.AnswerLaws.{gate-says}
 use borrow.Author.Needs.{needs}
 use Rattle.gridder_images.proofs.say.say_write.Statement.{statement}
 use Rattle.gridder_images.proofs.say.say_write.Tie as tie

@@ -1,6 +1,6 @@
 -- `landovireph::funnels::landovireph_funnel_open` meets its contract. By what its gate said. Assumes nothing.
 use denote.Ref.{now}
-use Rattle.gridder_calls.specs.OpenLaws.{open-passes, opens-refused, opens-passed}
+use Rattle.gridder_open.specs.OpenLaws.{open-passes, opens-refused, opens-passed}
 use borrow.Author.Needs.{needs}
 use Rattle.landovireph.proofs.funnels.landovireph_funnel_open.Statement.{statement}
 use Rattle.landovireph.proofs.funnels.landovireph_funnel_open.Tie as tie

@@ -1,6 +1,6 @@
 -- `landovireph::funnels::landovireph_funnel_place_all` meets its contract. By whether the block holds a state. Assumes nothing.
 use mathlib.Core.Path.{sym, _∙_}
-use Rattle.gridder_calls.specs.PlaceLaws.{placement-unheld}
+use Rattle.gridder_place.specs.PlaceLaws.{placement-unheld}
 use borrow.Author.Needs.{needs}
 use Rattle.landovireph.proofs.funnels.landovireph_funnel_place_all.Statement.{statement}
 use Rattle.landovireph.proofs.funnels.landovireph_funnel_place_all.Tie as tie

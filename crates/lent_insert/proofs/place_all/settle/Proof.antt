@@ -1,0 +1,117 @@
+-- `lent_insert::place_all::settle` meets its contract. A slot that the levels settle is that of the whole search; else the insertion is made in full. Assumes nothing.
+use mathlib.Core.Path.{subst}
+use native.Mathlib.Omega.{arith}
+use denote.Ref.{now}
+use Rattle.funnel.specs.declared.table.Stop.{Stop}
+use Rattle.funnel.specs.Search.{findOf}
+use Rattle.funnel.specs.Stop.{StopsAt}
+use Rattle.funnel.specs.SettleLaws.{settles-by, settles-there, settles-put}
+use Rattle.lent.specs.Lent.{wordsOf}
+use Rattle.lent_insert.specs.PutLaws.{vacant-slot-lent, settles-lent}
+use borrow.Author.Needs.{needs}
+use Rattle.lent_insert.proofs.place_all.settle.Statement.{statement}
+use Rattle.lent_insert.proofs.place_all.settle.Tie as tie
+
+pass-levels-requires : tie.Need-pass-levels-requires
+pass-levels-requires c κs = search needs
+
+enum-known-slot : tie.Need-enum-known-slot
+enum-known-slot c = search needs
+
+enum-known-slot-2 : tie.Need-enum-known-slot-2
+enum-known-slot-2 c = search needs
+
+put-requires : tie.Need-put-requires
+put-requires c κs = search needs
+
+settled-requires : tie.Need-settled-requires
+settled-requires c κs = search needs
+
+same-length : tie.Need-same-length
+same-length c = search needs
+
+same-length-2 : tie.Need-same-length-2
+same-length-2 c = search needs
+
+returns : tie.Need-returns
+returns c = settles-by (c .before .before .before .before .before .put .ensures) (c .settled .ensures)
+
+mul-write64 : tie.Need-mul-write64
+unfolding StopsAt
+mul-write64 c = let l = vacant-slot-lent (c .before .before .before .before .before .before .before .before .before .before .pre .0) _ _ (subst (λ (r : Stop). StopsAt r (findOf (c .before .before .before .before .before .before .before .before .before .before .args .table) (now (c .before .before .before .before .before .before .before .before .before .before .args .counts)) (wordsOf (now (c .before .before .before .before .before .before .before .before .before .before .args .words))) (now (c .before .before .before .before .before .before .before .before .before .before .args .flags)) (c .before .before .before .before .before .before .before .before .before .before .args .identity)) (Unit {0})) (c .before .before .before .slot2 .given .1) (c .before .before .before .before .before .pass-levels .ensures)) in omega arith
+
+write64-requires : tie.Need-write64-requires
+unfolding StopsAt
+write64-requires c κs = let l = vacant-slot-lent (c .before .before .before .before .before .before .before .before .before .before .pre .0) _ _ (subst (λ (r : Stop). StopsAt r (findOf (c .before .before .before .before .before .before .before .before .before .before .args .table) (now (c .before .before .before .before .before .before .before .before .before .before .args .counts)) (wordsOf (now (c .before .before .before .before .before .before .before .before .before .before .args .words))) (now (c .before .before .before .before .before .before .before .before .before .before .args .flags)) (c .before .before .before .before .before .before .before .before .before .before .args .identity)) (Unit {0})) (c .before .before .before .slot2 .given .1) (c .before .before .before .before .before .pass-levels .ensures)) in omega arith
+
+slice-write-flags : tie.Need-slice-write-flags
+unfolding StopsAt
+slice-write-flags c = let l = vacant-slot-lent (c .before .before .before .before .before .before .before .before .before .before .before .before .before .pre .0) _ _ (subst (λ (r : Stop). StopsAt r (findOf (c .before .before .before .before .before .before .before .before .before .before .before .before .before .args .table) (now (c .before .before .before .before .before .before .before .before .before .before .before .before .before .args .counts)) (wordsOf (now (c .before .before .before .before .before .before .before .before .before .before .before .before .before .args .words))) (now (c .before .before .before .before .before .before .before .before .before .before .before .before .before .args .flags)) (c .before .before .before .before .before .before .before .before .before .before .before .before .before .args .identity)) (Unit {0})) (c .before .before .before .before .before .before .slot2 .given .1) (c .before .before .before .before .before .before .before .before .pass-levels .ensures)) in omega arith
+
+enum-told : tie.Need-enum-told
+enum-told c = search needs
+
+put-requires-2 : tie.Need-put-requires-2
+put-requires-2 c κs = search needs
+
+settled-requires-2 : tie.Need-settled-requires-2
+settled-requires-2 c κs = search needs
+
+same-length-3 : tie.Need-same-length-3
+same-length-3 c = search needs
+
+same-length-4 : tie.Need-same-length-4
+same-length-4 c = search needs
+
+returns-2 : tie.Need-returns-2
+unfolding StopsAt
+returns-2 c = settles-there _ _ _ _ _ _ _ _ (subst (λ (r : Stop). StopsAt r (findOf (c .before .before .before .before .before .before .before .before .args .table) (now (c .before .before .before .before .before .before .before .before .args .counts)) (wordsOf (now (c .before .before .before .before .before .before .before .before .args .words))) (now (c .before .before .before .before .before .before .before .before .args .flags)) (c .before .before .before .before .before .before .before .before .args .identity)) (Unit {0})) (c .before .slot .given .1) (c .before .before .before .pass-levels .ensures))
+
+same-length-5 : tie.Need-same-length-5
+same-length-5 c = search needs
+
+same-length-6 : tie.Need-same-length-6
+same-length-6 c = search needs
+
+returns-3 : tie.Need-returns-3
+unfolding StopsAt
+returns-3 c = let v = (subst (λ (r : Stop). StopsAt r (findOf (c .before .before .before .before .before .before .before .before .before .before .before .before .before .args .table) (now (c .before .before .before .before .before .before .before .before .before .before .before .before .before .args .counts)) (wordsOf (now (c .before .before .before .before .before .before .before .before .before .before .before .before .before .args .words))) (now (c .before .before .before .before .before .before .before .before .before .before .before .before .before .args .flags)) (c .before .before .before .before .before .before .before .before .before .before .before .before .before .args .identity)) (Unit {0})) (c .before .before .before .before .before .before .slot2 .given .1) (c .before .before .before .before .before .before .before .before .pass-levels .ensures)) in
+    let l = vacant-slot-lent (c .before .before .before .before .before .before .before .before .before .before .before .before .before .pre .0) _ _ v in
+    settles-lent _ _ _ _ _ _ _ _ _ _ _ (c .before .before .write64 .ensures) (omega arith) (omega arith) (settles-put _ _ _ _ _ _ _ (omega (arith, c .before .before .before .before .if1 .left)) _ v)
+
+same-length-7 : tie.Need-same-length-7
+same-length-7 c = search needs
+
+same-length-8 : tie.Need-same-length-8
+same-length-8 c = search needs
+
+returns-4 : tie.Need-returns-4
+returns-4 c = settles-by (c .before .before .before .before .before .put2 .ensures) (c .settled2 .ensures)
+
+pub settle-spec : {M : Type 1} → statement M
+settle-spec =
+    tie.close
+    (tie.spec
+    pass-levels-requires
+    enum-known-slot
+    enum-known-slot-2
+    put-requires
+    settled-requires
+    same-length
+    same-length-2
+    returns
+    mul-write64
+    write64-requires
+    slice-write-flags
+    enum-told
+    put-requires-2
+    settled-requires-2
+    same-length-3
+    same-length-4
+    returns-2
+    same-length-5
+    same-length-6
+    returns-3
+    same-length-7
+    same-length-8
+    returns-4)
