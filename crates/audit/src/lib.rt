@@ -16,7 +16,8 @@
 // in the ordinary marks (crate `waiting`), which are made again from the order at the end. That the answer means what it should
 // (accepted exactly if some order makes the image) is proved in the crate `demand`, over the definitions alone.
 //
-// Here are the definitions and what looks at one slot; the passes over all slots and the public call are in `audit_calls`.
+// Here are the definitions and what looks at one slot; the turns in the special part are in `audit_special`, the passes over all slots in `audit_pass`, the
+// public call is in `audit_calls`.
 //
 //     ready.rt   whether a slot is ready
 //     verdict.rt which special slots are live, and their queue

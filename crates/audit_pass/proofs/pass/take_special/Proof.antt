@@ -1,12 +1,12 @@
--- `audit_calls::pass::take_special` meets its contract. Assumes nothing.
+-- `audit_pass::pass::take_special` meets its contract. Assumes nothing.
 use native.Mathlib.Omega.{arith}
 use mathlib.Core.Path.{_≡_, refl, _∙_}
 use Rattle.audit.specs.GreedyLaws.{valid-marks}
 use Rattle.audit.specs.MarkedLaws.{listed-slots, listed-few, restored, marks-end}
 use Rattle.audit.specs.VerdictLaws.{special-room, doing-start}
 use borrow.Author.Needs.{needs}
-use Rattle.audit_calls.proofs.pass.take_special.Statement.{statement}
-use Rattle.audit_calls.proofs.pass.take_special.Tie as tie
+use Rattle.audit_pass.proofs.pass.take_special.Statement.{statement}
+use Rattle.audit_pass.proofs.pass.take_special.Tie as tie
 
 judge-requires : tie.Need-judge-requires
 judge-requires c κs = search needs

@@ -1,4 +1,4 @@
--- `audit_calls::pass::take_members` meets its contract. Assumes nothing.
+-- `audit_pass::pass::take_members` meets its contract. Assumes nothing.
 use Prim.Native.Nat.{ℕ}
 use native.Mathlib.Omega.{arith}
 use mathlib.Core.Path.{ap, sym, _∙_}
@@ -10,8 +10,8 @@ use Rattle.audit.specs.VerdictLaws.{early-cleared}
 use Rattle.audit.specs.MarkedLaws.{listed-whole}
 use Rattle.audit.specs.GreedyLaws.{going-on, greedy-cleared, valid-marks}
 use borrow.Author.Needs.{needs}
-use Rattle.audit_calls.proofs.pass.take_members.Statement.{statement}
-use Rattle.audit_calls.proofs.pass.take_members.Tie as tie
+use Rattle.audit_pass.proofs.pass.take_members.Statement.{statement}
+use Rattle.audit_pass.proofs.pass.take_members.Tie as tie
 
 clear-bytes-requires : tie.Need-clear-bytes-requires
 clear-bytes-requires c κs = search needs

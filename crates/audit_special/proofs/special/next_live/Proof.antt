@@ -1,4 +1,4 @@
--- `audit_calls::special::next_live` meets its contract. Assumes nothing.
+-- `audit_special::special::next_live` meets its contract. Assumes nothing.
 use Prim.Native.Nat.{_-_}
 use native.Mathlib.Omega.{arith}
 use mathlib.Core.Path.{_∙_}
@@ -9,8 +9,8 @@ use Rattle.audit.specs.Waits.{Turned}
 use Rattle.audit.specs.GreedyLaws.{valid-marks}
 use Rattle.audit.specs.VerdictLaws.{special-room}
 use Rattle.audit.specs.WaitsLaws.{turned-none, chosen-full, chosen-none, smallest-below, chosen-at, end-within, turned-filed, filed-fewer, turned-dropped, dropped-fewer}
-use Rattle.audit_calls.proofs.special.next_live.Statement.{statement}
-use Rattle.audit_calls.proofs.special.next_live.Tie as tie
+use Rattle.audit_special.proofs.special.next_live.Statement.{statement}
+use Rattle.audit_special.proofs.special.next_live.Tie as tie
 
 abbrev Inv-loop : tie.InvT-loop
 Inv-loop table counts words marks₀ placed start m marks = Turned table words start m marks₀ marks

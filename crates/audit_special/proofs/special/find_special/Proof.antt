@@ -1,4 +1,4 @@
--- `audit_calls::special::find_special` meets its contract: two stages, the second resumed where the first met no vacancy. Assumes nothing.
+-- `audit_special::special::find_special` meets its contract: two stages, the second resumed where the first met no vacancy. Assumes nothing.
 use mathlib.Core.Path.{_∙_}
 use native.Mathlib.Omega.{arith}
 use Rattle.geometry.specs.FunnelLaws.{plan-facts}
@@ -6,8 +6,8 @@ use Rattle.funnel.specs.PlanLaws.{primary-start}
 use Rattle.funnel.proofs.Stays.{stays}
 use Rattle.audit.specs.SpecialLaws.{special-primary, special-resume, special-fallback, special-found}
 use borrow.Author.Needs.{needs}
-use Rattle.audit_calls.proofs.special.find_special.Statement.{statement}
-use Rattle.audit_calls.proofs.special.find_special.Tie as tie
+use Rattle.audit_special.proofs.special.find_special.Statement.{statement}
+use Rattle.audit_special.proofs.special.find_special.Tie as tie
 
 funnel-key-requires : tie.Need-funnel-key-requires
 funnel-key-requires c κs = search needs

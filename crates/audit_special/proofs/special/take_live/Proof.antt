@@ -1,4 +1,4 @@
--- `audit_calls::special::take_live` meets its contract. Assumes nothing.
+-- `audit_special::special::take_live` meets its contract. Assumes nothing.
 use Rattle.geometry.specs.FunnelLaws.{plan-facts}
 use Prim.Native.Nat.{_-_}
 use native.Mathlib.Omega.{arith}
@@ -8,8 +8,8 @@ use Rattle.audit.specs.Waits.{Onward}
 use Rattle.audit.specs.GreedyLaws.{valid-marks}
 use Rattle.audit.specs.VerdictLaws.{special-room}
 use Rattle.audit.specs.WaitsLaws.{doing-end, doing-chained, doing-stop, choice-within, marked-queue, doing-placed}
-use Rattle.audit_calls.proofs.special.take_live.Statement.{statement}
-use Rattle.audit_calls.proofs.special.take_live.Tie as tie
+use Rattle.audit_special.proofs.special.take_live.Statement.{statement}
+use Rattle.audit_special.proofs.special.take_live.Tie as tie
 
 abbrev Inv-loop : tie.InvT-loop
 Inv-loop table counts words flags marks₀ order₀ start before n m placed₀ marks order placed = Onward table counts words flags start m marks₀ order₀ before marks order placed

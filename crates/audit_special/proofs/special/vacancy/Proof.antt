@@ -1,10 +1,10 @@
--- `audit_calls::special::vacancy` meets its contract. Assumes nothing.
+-- `audit_special::special::vacancy` meets its contract. Assumes nothing.
 use mathlib.Core.Path.{refl, ap}
 use Rattle.audit.specs.declared.slots.First.the-variants.{At}
 use Rattle.audit.specs.WaitsLaws.{vacancy-found}
 use borrow.Author.Needs.{needs}
-use Rattle.audit_calls.proofs.special.vacancy.Statement.{statement}
-use Rattle.audit_calls.proofs.special.vacancy.Tie as tie
+use Rattle.audit_special.proofs.special.vacancy.Statement.{statement}
+use Rattle.audit_special.proofs.special.vacancy.Tie as tie
 
 mul-identity : tie.Need-mul-identity
 mul-identity c = search needs

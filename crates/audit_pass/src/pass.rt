@@ -9,11 +9,11 @@ ghost use Rattle.audit.specs.Marked.{Listed};
 ghost use Rattle.audit.specs.Verdicts.{Early};
 ghost use Rattle.funnel.specs.Path.{primaryStart};
 ghost use Rattle.funnel.specs.Valid.{Valid};
-use crate::special::take_live;
 use audit::ready::is_ready;
 use audit::restore::restore;
 use audit::verdict::judge;
 use audit::verdict::offer;
+use audit_special::special::take_live;
 use funnel::table::FunnelTable;
 use words::clear::clear_bytes;
 

@@ -1,4 +1,4 @@
--- `audit_calls::pass::take_ordinary` meets its contract. Assumes nothing.
+-- `audit_pass::pass::take_ordinary` meets its contract. Assumes nothing.
 use Prim.Native.Nat.{_≤_, _-_}
 use native.Mathlib.Omega.{arith}
 use mathlib.Core.Path.{_≡_, sym, _∙_}
@@ -8,8 +8,8 @@ use Rattle.audit.specs.Going.{Going}
 use Rattle.audit.specs.Verdicts.{Early}
 use Rattle.audit.specs.VerdictLaws.{early-more, early-set}
 use Rattle.audit.specs.GreedyLaws.{going-none, going-skip, going-rise, valid-marks}
-use Rattle.audit_calls.proofs.pass.take_ordinary.Statement.{statement}
-use Rattle.audit_calls.proofs.pass.take_ordinary.Tie as tie
+use Rattle.audit_pass.proofs.pass.take_ordinary.Statement.{statement}
+use Rattle.audit_pass.proofs.pass.take_ordinary.Tie as tie
 
 abbrev Inv-loop : tie.InvT-loop
 Inv-loop table counts words flags marks₀ order₀ start placed₀ slot₀ marks order placed slot = (placed ≤ slot) × (slot ≤ start) × Early slot marks × Going (greedyOf table counts words flags (table .n) (table .n) marks₀ order₀ 0) table counts words flags marks order placed slot
