@@ -1,5 +1,5 @@
-// Audit: the check itself. Carries 01's "Image and check", the check. `audit` has the greedy order, its laws, and what looks at one slot; `audit_pass` the
-// passes over all slots.
+// Audit: the check itself. Carries 01's "Image and check", the check. `audit` has the greedy order and its laws, `audit_pass` the passes over all
+// slots.
 //
 //     check.rt   the call, its gate and its answer: Accepted, Disorder, Dirty, or a refusal 1 to 7
 //

@@ -105,3 +105,7 @@ unfolding fieldOf
 head-then l p tag body =
     let e : length (tag ∷ bytesOf 2 (length body)) ≡ 3 = ap suc (length-bytes 2 (length body)) in
     sets-append l p (tag ∷ bytesOf 2 (length body)) body ∙ rw e
+
+-- a field of a number of k bytes
+pub number-then : (l : List ℕ) (p tag k x : ℕ) → sets l p (fieldOf tag (bytesOf k x)) ≡ sets (sets l p (tag ∷ bytesOf 2 k)) (p + 3) (bytesOf k x)
+number-then l p tag k x = head-then l p tag (bytesOf k x) ∙ rw (length-bytes k x)

@@ -7,6 +7,7 @@ use lib.ListN.{length, getD, take, drop, length-append}
 use lib.Seq.{sets, length-sets}
 use lib.Dec.{ltb}
 use borrow.Author.Tests.{eq-eqb, ne-eqb, ltb-true, ltb-false}
+use Rattle.words.specs.Bytes.{bytesOf}
 use Rattle.words.specs.BytesLaws.{sets-append, length-bytes}
 use Rattle.image.specs.Format.{entrySize, Entry, entry, entriesFrom, entryBytes, bodyOf}
 use Rattle.image_writer.specs.Pieces.{entriesTo, PutEntries}
@@ -33,6 +34,9 @@ module _ (words flags : List ℕ) where
 
 pub length-entry : (s x : ℕ) → length (entryBytes s x) ≡ 16
 length-entry s x = simp (length-append, length-bytes)
+
+pub entry-then : (l : List ℕ) (p s x : ℕ) → sets l p (entryBytes s x) ≡ sets (sets l p (bytesOf 8 s)) (p + 8) (bytesOf 8 x)
+entry-then l p s x = sets-append l p (bytesOf 8 s) (bytesOf 8 x) ∙ rw (length-bytes 8 s)
 
 -- one entry
 put-step : (l : List ℕ) (p s x j : ℕ) (es : List Entry) → sets l p (bodyOf (take (suc j) (entry s x ∷ es))) ≡ sets (sets l p (entryBytes s x)) (p + entrySize) (bodyOf (take j es))

@@ -1,5 +1,6 @@
 -- `image_writer::writer::write_entry` meets its contract. Assumes nothing.
-use Rattle.words.specs.BytesLaws.{sets-append, length-bytes}
+use mathlib.Core.Path.{sym, _∙_}
+use Rattle.image_writer.specs.EntryLaws.{entry-then}
 use borrow.Author.Needs.{needs}
 use Rattle.image_writer.proofs.writer.write_entry.Statement.{statement}
 use Rattle.image_writer.proofs.writer.write_entry.Tie as tie
@@ -17,7 +18,7 @@ same-length : tie.Need-same-length
 same-length c = search needs
 
 returns : tie.Need-returns
-returns c = rw (sets-append, length-bytes) cc
+returns c = c .before .before .write642 .ensures ∙ rw (c .before .before .before .before .before .before .write64 .ensures) (sym (entry-then _ _ _ _))
 
 pub write-entry-spec : {M : Type 1} → statement M
 write-entry-spec =

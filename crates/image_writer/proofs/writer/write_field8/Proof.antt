@@ -1,6 +1,6 @@
 -- `image_writer::writer::write_field8` meets its contract. Assumes nothing.
-use Rattle.image_writer.specs.EntryFieldLaws.{head-then}
-use Rattle.words.specs.BytesLaws.{length-bytes}
+use mathlib.Core.Path.{sym, _∙_}
+use Rattle.image_writer.specs.EntryFieldLaws.{number-then}
 use borrow.Author.Needs.{needs}
 use Rattle.image_writer.proofs.writer.write_field8.Statement.{statement}
 use Rattle.image_writer.proofs.writer.write_field8.Tie as tie
@@ -18,7 +18,7 @@ same-length : tie.Need-same-length
 same-length c = search needs
 
 returns : tie.Need-returns
-returns c = rw (head-then, length-bytes) cc
+returns c = c .before .before .write64 .ensures ∙ rw (c .before .before .before .before .before .before .write-head .ensures) (sym (number-then _ _ _ _ _))
 
 pub write-field8-spec : {M : Type 1} → statement M
 write-field8-spec =

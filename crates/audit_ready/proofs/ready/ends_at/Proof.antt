@@ -1,8 +1,8 @@
--- `audit::ready::ends_at` meets its contract. Assumes nothing.
+-- `audit_ready::ready::ends_at` meets its contract. Assumes nothing.
 use Rattle.audit.specs.ReadyLaws.{ends-found}
 use borrow.Author.Needs.{needs}
-use Rattle.audit.proofs.ready.ends_at.Statement.{statement}
-use Rattle.audit.proofs.ready.ends_at.Tie as tie
+use Rattle.audit_ready.proofs.ready.ends_at.Statement.{statement}
+use Rattle.audit_ready.proofs.ready.ends_at.Tie as tie
 
 find-requires : tie.Need-find-requires
 find-requires c κs = search needs

@@ -1,4 +1,4 @@
--- `audit::ready::pass_placed` meets its contract. The invariant: no level before the present one stops the search, and its bucket is drawn. Assumes nothing.
+-- `audit_ready::ready::pass_placed` meets its contract. The invariant: no level before the present one stops the search, and its bucket is drawn. Assumes nothing.
 use Prim.Native.Nat.{_-_}
 use mathlib.Core.Path.{subst}
 use native.Mathlib.Omega.{arith}
@@ -7,8 +7,8 @@ use Rattle.geometry.specs.FunnelLaws.{plan-facts}
 use Rattle.funnel.specs.PlanLaws.{valid-drawable, level-room}
 use Rattle.funnel.specs.Stop.{StopsAt, BucketStops}
 use Rattle.funnel.specs.StopLaws.{LevelsPassed, passed-none, passed-room, passed-stops, passed-more}
-use Rattle.audit.proofs.ready.pass_placed.Statement.{statement}
-use Rattle.audit.proofs.ready.pass_placed.Tie as tie
+use Rattle.audit_ready.proofs.ready.pass_placed.Statement.{statement}
+use Rattle.audit_ready.proofs.ready.pass_placed.Tie as tie
 
 abbrev Inv-loop : tie.InvT-loop
 Inv-loop table counts words flags identity key alpha beta level₀ start₀ bucket₀ level start bucket = LevelsPassed table counts words flags identity key level start bucket

@@ -1,9 +1,9 @@
--- `audit::ready::is_ready` meets its contract. Assumes nothing.
+-- `audit_ready::ready::is_ready` meets its contract. Assumes nothing.
 use mathlib.Core.Path.{sym}
 use Rattle.audit.specs.ReadyLaws.{ready-vacant, ready-marked, ready-exhausted, ready-stopped, ready-there, ready-ends}
 use borrow.Author.Needs.{needs}
-use Rattle.audit.proofs.ready.is_ready.Statement.{statement}
-use Rattle.audit.proofs.ready.is_ready.Tie as tie
+use Rattle.audit_ready.proofs.ready.is_ready.Statement.{statement}
+use Rattle.audit_ready.proofs.ready.is_ready.Tie as tie
 
 shared-slice-read-if1 : tie.Need-shared-slice-read-if1
 shared-slice-read-if1 c = search needs
