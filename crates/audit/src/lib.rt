@@ -16,9 +16,9 @@
 // in the ordinary marks (crate `waiting`), which are made again from the order at the end. That the answer means what it should
 // (accepted exactly if some order makes the image) is proved in the crate `demand`, over the definitions alone.
 //
-// Here are the definitions and what looks at one slot; the passes over all slots and the public call are in `audit_calls`.
+// Here are the definitions, the verdicts and what looks at slots one by one. Whether a slot is ready is in `audit_ready`, the turns in the special part in
+// `audit_special`, the passes over all slots in `audit_pass`, the public call in `audit_calls`.
 //
-//     ready.rt   whether a slot is ready
 //     verdict.rt which special slots are live, and their queue
 //     restore.rt the marks made again
 //     slots.rt   the first dirty slot, the first that is left
@@ -29,7 +29,6 @@
 //     specs/*Laws.antt     what the proofs cite; OrdinaryLaws: why the rising pass is right; SpecialLaws: why a verdict is final;
 //                          WaitsLaws: why no other than a candidate is ready
 
-pub mod ready;
 pub mod restore;
 pub mod slots;
 pub mod verdict;

@@ -5,7 +5,7 @@ use audit_calls::check::check;
 use image_calls::calls::Loaded;
 use image_calls::calls::load_image;
 use image_calls::calls::write_image;
-use image_calls::writer::Written;
+use image_writer::writer::Written;
 
 // What the check says: 0 accepted, 1 disorder, 2 another refusal; and the number placed, and the slot of a disorder.
 #[no_mangle]

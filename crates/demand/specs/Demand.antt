@@ -22,11 +22,11 @@ use Rattle.funnel.specs.Fresh.{fresh, after, Sound}
 use Rattle.funnel.specs.FreshLaws.{fresh-after}
 use Rattle.funnel.specs.Insert.{withCount}
 use Rattle.image_calls.specs.declared.calls.Loaded.the-variants as loaded
-use Rattle.image_calls.specs.declared.writer.Written.the-variants as written
+use Rattle.image_writer.specs.declared.writer.Written.the-variants as written
 use Rattle.image_calls.specs.Calls.{writeImageOf, loadings, loadImageOf}
-use Rattle.image_calls.specs.DirtyLaws.{entries-most}
+use Rattle.image_writer.specs.DirtyLaws.{entries-most}
 use Rattle.image.specs.Format.{entriesOf}
-use Rattle.image_calls.specs.Writing.{writes}
+use Rattle.image_writer.specs.Writing.{writes}
 use Rattle.image_laws.specs.CallRoundTrip.{load-image-after-write-image}
 use Rattle.image_laws.specs.RoundTrip.{Machine}
 use Rattle.demand.specs.RunLaws.{after-made}

@@ -22,7 +22,7 @@ use Rattle.image.specs.Format.{labelMost}
 use Rattle.image_calls.specs.Loading.{loads, loadOf}
 use Rattle.image_calls.specs.declared.loader.Filled.{Filled}
 use Rattle.image_calls.specs.declared.loader.Filled.the-variants as filled
-use Rattle.image_calls.specs.declared.writer.Written.{Written}
+use Rattle.image_writer.specs.declared.writer.Written.{Written}
 use Rattle.lent.specs.Lent.{wordsOf, wordCount}
 use Rattle.lent.specs.LentLaws.{count-some}
 use Rattle.gridder_answer.specs.Answer.{answerLength, says, saying, Reply, reply}

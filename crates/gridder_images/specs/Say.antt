@@ -5,8 +5,8 @@ use Rattle.refusal.specs.Table.{numberOf}
 use Rattle.refusal.specs.declared.Name.the-variants as name
 use Rattle.image_calls.specs.declared.loader.Filled.{Filled}
 use Rattle.image_calls.specs.declared.loader.Filled.the-variants as filled
-use Rattle.image_calls.specs.declared.writer.Written.{Written}
-use Rattle.image_calls.specs.declared.writer.Written.the-variants as written
+use Rattle.image_writer.specs.declared.writer.Written.{Written}
+use Rattle.image_writer.specs.declared.writer.Written.the-variants as written
 use Rattle.gridder_answer.specs.Answer.{Field, field, slotAt}
 
 -- ---- the offsets

@@ -6,7 +6,7 @@ use Rattle.funnel.specs.declared.table.FunnelTable.{FunnelTable}
 use Rattle.image_calls.specs.Calls.{loadedOf, loadedReport, writtenReport}
 use Rattle.image_calls.specs.declared.loader.Filled.{Filled}
 use Rattle.image_calls.specs.declared.loader.Filled.the-variants as filled
-use Rattle.image_calls.specs.declared.writer.Written.{Written}
+use Rattle.image_writer.specs.declared.writer.Written.{Written}
 use Rattle.gridder_answer.specs.Answer.{says, reply}
 use Rattle.gridder_images.specs.Say.{filledFields, filledNumber, writtenFields}
 

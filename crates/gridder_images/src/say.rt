@@ -9,7 +9,7 @@ use gridder_answer::answer::say_both;
 use gridder_answer::answer::say_gate;
 use gridder_answer::answer::say_number;
 use image_calls::loader::Filled;
-use image_calls::writer::Written;
+use image_writer::writer::Written;
 use refusal::Name;
 use refusal::number;
 use words::clear::clear_bytes;

@@ -1,5 +1,5 @@
-// Images: a funnel table as bytes. Carries the format of 01's "Image and check"; the Rust has no counterpart. Writer, loader and the
-// public calls are in `image_calls`.
+// Images: a funnel table as bytes. Carries the format of 01's "Image and check"; the Rust has no counterpart. The writer is in
+// `image_writer`, loader and public calls are in `image_calls`.
 //
 // An image is a row of fields, each a tag of one byte, a length of two and a body, all numbers little-endian:
 //

@@ -21,11 +21,11 @@ use Rattle.image_calls.specs.Calls.{writeGate, writeImageOf, loadings, l
 use Rattle.image.specs.Format.{labelMost}
 use Rattle.image_calls.specs.Loading.{loads, loadOf}
 use Rattle.image.specs.TestLaws.{cases}
-use Rattle.image_calls.specs.Writing.{Writes, writes, writeOf}
+use Rattle.image_writer.specs.Writing.{Writes, writes, writeOf}
 use Rattle.image_calls.specs.declared.calls.Loaded.{Loaded}
 use Rattle.image_calls.specs.declared.calls.Loaded.the-variants as loaded
 use Rattle.image_calls.specs.declared.loader.Filled.{Filled}
-use Rattle.image_calls.specs.declared.writer.Written.the-variants as written
+use Rattle.image_writer.specs.declared.writer.Written.the-variants as written
 
 -- ---- the writer's gate
 

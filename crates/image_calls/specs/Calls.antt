@@ -16,13 +16,13 @@ use Rattle.funnel.specs.Insert.{withCount}
 use Rattle.funnel.specs.declared.table.FunnelTable.{FunnelTable}
 use Rattle.image.specs.Format.{labelMost}
 use Rattle.image_calls.specs.Loading.{Loads, loadOf}
-use Rattle.image_calls.specs.Writing.{Writes, writes, writeOf}
+use Rattle.image_writer.specs.Writing.{Writes, writes, writeOf}
 use Rattle.image_calls.specs.declared.calls.Loaded.{Loaded}
 use Rattle.image_calls.specs.declared.calls.Loaded.the-variants as loaded
 use Rattle.image_calls.specs.declared.loader.Filled.{Filled}
 use Rattle.image_calls.specs.declared.loader.Filled.the-variants as filled
-use Rattle.image_calls.specs.declared.writer.Written.{Written}
-use Rattle.image_calls.specs.declared.writer.Written.the-variants as written
+use Rattle.image_writer.specs.declared.writer.Written.{Written}
+use Rattle.image_writer.specs.declared.writer.Written.the-variants as written
 
 -- ---- the writer
 

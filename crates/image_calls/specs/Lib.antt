@@ -1,14 +1,6 @@
 pub mod CallLaws
 pub mod Calls
-pub mod Dirty
-pub mod DirtyLaws
-pub mod EntryFieldLaws
-pub mod EntryLaws
 pub mod Fill
 pub mod FillLaws
-pub mod ImageLaws
 pub mod Loading
 pub mod LoadingLaws
-pub mod Pieces
-pub mod Writing
-pub mod WritingLaws

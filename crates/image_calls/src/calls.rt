@@ -1,16 +1,16 @@
 // The public calls. Each tests 1 to 7 in order, and then does the call on a valid table.
 ghost use mathlib.Core.Path.{_≡_};
 ghost use Rattle.image_calls.specs.Calls.{writeGate, writeImageOf, loadings, loadedOf, loadImageOf};
-ghost use Rattle.image_calls.specs.Writing.{writes};
+ghost use Rattle.image_writer.specs.Writing.{writes};
 use crate::loader::Filled;
 use crate::loader::load;
-use crate::writer::Written;
-use crate::writer::write;
 use funnel::table::FunnelTable;
 use funnel_calls::calls::table_gate;
 use geometry::config::Gated;
 use geometry::funnel::funnel_gate;
 use image::field::LABEL_MOST;
+use image_writer::writer::Written;
+use image_writer::writer::write;
 use refusal::Gate;
 
 // What the loader answers: a refusal of the gate, IMAGE with its place, FOREIGN, or the table with its new count and the

@@ -19,11 +19,11 @@ use Rattle.image_calls.specs.FillLaws.{length-fill-words, length-fill-flags}
 use Rattle.image.specs.Format.{labelMost, entriesOf}
 use Rattle.image_calls.specs.Loading.{Loads, loads, loadOf}
 use Rattle.image.specs.Reading.{rising}
-use Rattle.image_calls.specs.Writing.{Writes, writes, onto, writeOf}
+use Rattle.image_writer.specs.Writing.{Writes, writes, onto, writeOf}
 use Rattle.image_calls.specs.declared.calls.Loaded.the-variants as loaded
 use Rattle.image_calls.specs.declared.loader.Filled.{Filled}
 use Rattle.image_calls.specs.declared.loader.Filled.the-variants as filled
-use Rattle.image_calls.specs.declared.writer.Written.the-variants as written
+use Rattle.image_writer.specs.declared.writer.Written.the-variants as written
 use Rattle.image_laws.specs.ReadAfterWrite.{labelPlace}
 use Rattle.image_laws.specs.RoundTrip.{Machine, LoadedAll, loaded-all, load-after-write, write-after-load}
 use Rattle.image_laws.specs.TableLaws.{rising-few}

@@ -17,8 +17,8 @@ use Rattle.image.specs.Reading.{rankOf, rightTag, rightLength, lowAfter, frameO
 use Rattle.image.specs.FrameLaws.{frame-field, right-is}
 use Rattle.image.specs.CursorLaws.{floor-append}
 use Rattle.image.specs.TestLaws.{cases}
-use Rattle.image_calls.specs.EntryFieldLaws.{length-body}
-use Rattle.image_calls.specs.ImageLaws.{length-field}
+use Rattle.image_writer.specs.EntryFieldLaws.{length-body}
+use Rattle.image_writer.specs.ImageLaws.{length-field}
 use Rattle.image_laws.specs.WriteAfterRead.{plus, plus-none}
 use Rattle.image.specs.declared.field.Framed.the-variants.{Field}
 

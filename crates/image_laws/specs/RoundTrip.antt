@@ -10,18 +10,18 @@ use lib.Dec.{eqb, ltb}
 use borrow.Author.Tests.{eqb-true, eq-eqb, le-ltb}
 use Rattle.words.specs.Bytes.{Bytes}
 use Rattle.words.specs.Pick.{pick}
-use Rattle.image_calls.specs.Dirty.{scanOf}
-use Rattle.image_calls.specs.DirtyLaws.{entries-most}
+use Rattle.image_writer.specs.Dirty.{scanOf}
+use Rattle.image_writer.specs.DirtyLaws.{entries-most}
 use Rattle.image_calls.specs.Fill.{fillWords, fillFlags}
 use Rattle.image.specs.Format.{Entry, entry, labelMost, entriesFrom, entriesOf, imageOf}
 use Rattle.image_calls.specs.Loading.{Loads, loads, ofTable, loadGood, loadAfter, loadOf}
 use Rattle.image.specs.Reading.{rising, Seen, Reading, bad, good, readOf}
 use Rattle.image.specs.TestLaws.{not-both}
-use Rattle.image_calls.specs.Writing.{Writes, writes, onto, writeAfter, writeOf}
-use Rattle.image_calls.specs.declared.dirty.Scan.{Scan}
-use Rattle.image_calls.specs.declared.dirty.Scan.the-variants.{Dirty, Clean}
+use Rattle.image_writer.specs.Writing.{Writes, writes, onto, writeAfter, writeOf}
+use Rattle.image_writer.specs.declared.dirty.Scan.{Scan}
+use Rattle.image_writer.specs.declared.dirty.Scan.the-variants.{Dirty, Clean}
 use Rattle.image_calls.specs.declared.loader.Filled.the-variants as filled
-use Rattle.image_calls.specs.declared.writer.Written.the-variants as written
+use Rattle.image_writer.specs.declared.writer.Written.the-variants as written
 use Rattle.image_laws.specs.ReadAfterWrite.{Fit, none, one, Valid, labelPlace, read-after-write}
 use Rattle.image_laws.specs.TableLaws.{fill-words-entries, fill-flags-entries, entries-rise, entries-filled, scan-filled}
 use Rattle.image_laws.specs.WriteAfterRead.{Image, write-after-read}

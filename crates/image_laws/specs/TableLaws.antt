@@ -10,13 +10,13 @@ use lib.Dec.{eqb, ltb}
 use borrow.Author.Tests.{eqb-true, eqb-false, ltb-true, ltb-false, le-leb, lt-ltb}
 use Rattle.words.specs.Pick.{pick}
 use Rattle.funnel.specs.Dirty.{dirtyAt}
-use Rattle.image_calls.specs.Dirty.{scanFrom, scanOf}
+use Rattle.image_writer.specs.Dirty.{scanFrom, scanOf}
 use Rattle.image_calls.specs.Fill.{fillWords, fillFlags}
 use Rattle.image_calls.specs.FillLaws.{risen-head, length-fill-flags}
 use Rattle.image.specs.Format.{Entry, entry, entriesFrom, entriesOf}
 use Rattle.image.specs.Reading.{rising}
 use Rattle.image.specs.TestLaws.{cases, not-both}
-use Rattle.image_calls.specs.declared.dirty.Scan.the-variants.{Dirty, Clean}
+use Rattle.image_writer.specs.declared.dirty.Scan.the-variants.{Dirty, Clean}
 
 -- ---- a clean slot
 

@@ -17,7 +17,7 @@ use Rattle.image.specs.CursorLaws.{floor-append, length-entries}
 use Rattle.image.specs.FrameLaws.{Framing, right-demanded, right-free, len-1, len-2, len-3, len-4, len-5, len-6}
 use Rattle.image.specs.ReadingLaws.{Step, last, more, step-of, not-good}
 use Rattle.image.specs.TestLaws.{cases}
-use Rattle.image_calls.specs.EntryFieldLaws.{length-body}
+use Rattle.image_writer.specs.EntryFieldLaws.{length-body}
 
 -- ---- bytes of a field
 

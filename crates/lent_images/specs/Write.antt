@@ -2,12 +2,12 @@
 use mathlib.Core.List.{List}
 use Prim.Native.Nat.{ℕ}
 use lib.ListN.{length}
-use Rattle.image_calls.specs.Dirty.{scanOf}
+use Rattle.image_writer.specs.Dirty.{scanOf}
 use Rattle.image.specs.Format.{entriesOf, imageOf}
-use Rattle.image_calls.specs.Writing.{Writes, writeOf}
-use Rattle.image_calls.specs.declared.dirty.Scan.{Scan}
-use Rattle.image_calls.specs.declared.dirty.Scan.the-variants.{Dirty, Clean}
-use Rattle.image_calls.specs.declared.writer.Written.{Written}
+use Rattle.image_writer.specs.Writing.{Writes, writeOf}
+use Rattle.image_writer.specs.declared.dirty.Scan.{Scan}
+use Rattle.image_writer.specs.declared.dirty.Scan.the-variants.{Dirty, Clean}
+use Rattle.image_writer.specs.declared.writer.Written.{Written}
 
 -- an answer, the length that the image needs, and the output as the call leaves it
 pub record Wrotes : Type 0 where

@@ -4,16 +4,16 @@ use mathlib.Core.List.{List}
 use Prim.Native.Nat.{ℕ, _<_, _≤_}
 use lib.ListN.{length}
 use lib.Seq.{sets}
-use Rattle.image_calls.specs.Dirty.{scanOf}
-use Rattle.image_calls.specs.DirtyLaws.{count-is}
+use Rattle.image_writer.specs.Dirty.{scanOf}
+use Rattle.image_writer.specs.DirtyLaws.{count-is}
 use Rattle.image.specs.Format.{entriesOf, imageOf}
-use Rattle.image_calls.specs.ImageLaws.{length-image}
-use Rattle.image_calls.specs.Pieces.{sizeOf}
-use Rattle.image_calls.specs.Writing.{Writes, writes, writeOf}
-use Rattle.image_calls.specs.WritingLaws.{writes-dirty, writes-room, writes-done}
-use Rattle.image_calls.specs.declared.dirty.Scan.the-variants.{Dirty, Clean}
-use Rattle.image_calls.specs.declared.writer.Written.{Written}
-use Rattle.image_calls.specs.declared.writer.Written.the-variants as written
+use Rattle.image_writer.specs.ImageLaws.{length-image}
+use Rattle.image_writer.specs.Pieces.{sizeOf}
+use Rattle.image_writer.specs.Writing.{Writes, writes, writeOf}
+use Rattle.image_writer.specs.WritingLaws.{writes-dirty, writes-room, writes-done}
+use Rattle.image_writer.specs.declared.dirty.Scan.the-variants.{Dirty, Clean}
+use Rattle.image_writer.specs.declared.writer.Written.{Written}
+use Rattle.image_writer.specs.declared.writer.Written.the-variants as written
 use Rattle.lent_images.specs.Write.{wrote, needOf, wroteOf}
 
 module _ (n e seed : ℕ) (label words flags out : List ℕ) where

@@ -2,15 +2,15 @@
 ghost use mathlib.Core.Path.{_≡_};
 ghost use Prim.Native.Nat.{_+_, _*_, _≤_};
 ghost use lib.ListN.{length};
-ghost use Rattle.image_calls.specs.Dirty.{scanOf};
+ghost use Rattle.image_writer.specs.Dirty.{scanOf};
 ghost use Rattle.image.specs.Format.{entrySize, fieldsFor};
-ghost use Rattle.image_calls.specs.Pieces.{entriesTo, PutEntries, PutFields};
+ghost use Rattle.image_writer.specs.Pieces.{entriesTo, PutEntries, PutFields};
 ghost use Rattle.lent.specs.Lent.{wordsOf};
 use image::field::ENTRY_SIZE;
-use image_calls::dirty::Scan;
-use image_calls::writer::chunk_of;
-use image_calls::writer::write_entry;
-use image_calls::writer::write_head;
+use image_writer::dirty::Scan;
+use image_writer::writer::chunk_of;
+use image_writer::writer::write_entry;
+use image_writer::writer::write_head;
 use lent::word::word_at;
 
 // The smallest dirty slot, else the number of occupied slots.

@@ -4,18 +4,18 @@ ghost use Prim.Native.Nat.{_*_, _≤_, _^_};
 ghost use lib.ListN.{length};
 ghost use lib.Seq.{sets};
 ghost use Rattle.image.specs.Format.{labelMost, imageOf};
-ghost use Rattle.image_calls.specs.Pieces.{entriesTo, sizeOf};
+ghost use Rattle.image_writer.specs.Pieces.{entriesTo, sizeOf};
 ghost use Rattle.lent.specs.Lent.{wordsOf};
 ghost use Rattle.lent_images.specs.Write.{wrote, wroteOf};
 use crate::entries::scan_table;
 use crate::entries::write_fields;
 use funnel::table::FunnelTable;
-use image_calls::dirty::Scan;
-use image_calls::writer::Written;
-use image_calls::writer::image_size;
-use image_calls::writer::write_field4;
-use image_calls::writer::write_field8;
-use image_calls::writer::write_label;
+use image_writer::dirty::Scan;
+use image_writer::writer::Written;
+use image_writer::writer::image_size;
+use image_writer::writer::write_field4;
+use image_writer::writer::write_field8;
+use image_writer::writer::write_label;
 
 // What the writer answers, and how long the image is; 0 where the table has none.
 pub struct Wrote {

@@ -1,7 +1,7 @@
 // WRITE n e seed cap LABELHEX ROOM ENTRIES: the image of a table that holds the entries, into ROOM bytes.
 use funnel::table::FunnelTable;
 use image_calls::calls::write_image;
-use image_calls::writer::Written;
+use image_writer::writer::Written;
 use refusal::Name;
 use script::print::OK;
 use script::print::Said;

@@ -1,5 +1,5 @@
 -- `lent_images::entries::scan_table` meets its contract. The loop's invariant: the slots left say what the whole table says. The measure is their number. Assumes nothing.
-use Rattle.image_calls.specs.DirtyLaws.{Scanning, scan-none, scan-flag, scan-word, scan-vacant, scan-taken, scan-end}
+use Rattle.image_writer.specs.DirtyLaws.{Scanning, scan-none, scan-flag, scan-word, scan-vacant, scan-taken, scan-end}
 use Rattle.lent.specs.Lent.{wordsOf}
 use mathlib.Core.Path.{sym, _∙_}
 use lib.ListN.{length}

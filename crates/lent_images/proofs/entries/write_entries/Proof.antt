@@ -1,5 +1,5 @@
 -- `lent_images::entries::write_entries` meets its contract. The loop's invariant: what is left to write gives what was to be written. The measure is the slots left. Assumes nothing.
-use Rattle.image_calls.specs.EntryLaws.{Writing, writing-none, writing-slot, writing-skip, writing-put, writing-end}
+use Rattle.image_writer.specs.EntryLaws.{Writing, writing-none, writing-slot, writing-skip, writing-put, writing-end}
 use Rattle.lent.specs.Lent.{wordsOf}
 use lib.ListN.{length}
 use borrow.Author.Needs.{needs}

@@ -1,5 +1,5 @@
 -- `lent_images::entries::write_fields` meets its contract. The loop's invariant: the fields left to write give all fields. The measure is the entries left. Assumes nothing.
-use Rattle.image_calls.specs.EntryFieldLaws.{Fields, fields-none, fields-room, fields-more, fields-end}
+use Rattle.image_writer.specs.EntryFieldLaws.{Fields, fields-none, fields-room, fields-more, fields-end}
 use lib.Seq.{length-sets}
 use Rattle.lent.specs.Lent.{wordsOf}
 use lib.ListN.{length}

@@ -1,6 +1,6 @@
 -- `lent_images::write::write` meets its contract. Assumes nothing.
-use Rattle.image_calls.specs.DirtyLaws.{count-is, count-most}
-use Rattle.image_calls.specs.ImageLaws.{entries-whole}
+use Rattle.image_writer.specs.DirtyLaws.{count-is, count-most}
+use Rattle.image_writer.specs.ImageLaws.{entries-whole}
 use Rattle.lent_images.specs.WriteLaws.{wrote-dirty, wrote-room, wrote-done}
 use mathlib.Core.Path.{sym, _∙_}
 use native.Mathlib.Omega.{arith}

@@ -2,7 +2,7 @@
 use native.Mathlib.Omega.{arith}
 use denote.Ref.{now}
 use borrow.Author.Needs.{needs}
-use Rattle.image_calls.specs.ImageLaws.{size-parts, put-image}
+use Rattle.image_writer.specs.ImageLaws.{size-parts, put-image}
 use Rattle.lent_images.proofs.write.write_all.Statement.{statement}
 use Rattle.lent_images.proofs.write.write_all.Tie as tie
 

@@ -1,0 +1,32 @@
+-- What the writer answers, and what it leaves in the output. Assumes nothing.
+use mathlib.Core.List.{List, _++_}
+use Prim.Native.Nat.{ℕ}
+use lib.ListN.{length, drop}
+use lib.Dec.{ltb}
+use Rattle.words.specs.Pick.{pick}
+use Rattle.image_writer.specs.Dirty.{scanOf}
+use Rattle.image.specs.Format.{entriesOf, imageOf}
+use Rattle.image_writer.specs.declared.dirty.Scan.{Scan}
+use Rattle.image_writer.specs.declared.dirty.Scan.the-variants.{Dirty, Clean}
+use Rattle.image_writer.specs.declared.writer.Written.{Written}
+use Rattle.image_writer.specs.declared.writer.Written.the-variants as written
+
+-- an answer, with the output as the call leaves it
+pub record Writes : Type 0 where
+  pub answer : Written
+  pub out : List ℕ
+
+abbrev pub writes : Written → List ℕ → Writes
+writes a out = record { answer = a; out = out }
+
+-- "The writer answers the image's length and leaves bytes past it as they were."
+abbrev pub onto : List ℕ → List ℕ → List ℕ
+onto image out = image ++ drop (length image) out
+
+-- "Image writer: 22, 26"
+unfoldable pub writeAfter : Scan → List ℕ → List ℕ → Writes
+writeAfter (Dirty s) image out = writes (written.Dirty s) out
+writeAfter (Clean c) image out = pick (ltb (length out) (length image)) (writes written.Room out) (writes (written.Done (length image)) (onto image out))
+
+unfoldable pub writeOf : ℕ → ℕ → ℕ → List ℕ → List ℕ → List ℕ → List ℕ → Writes
+writeOf n e seed label words flags out = writeAfter (scanOf words flags) (imageOf n e seed label (entriesOf words flags)) out
