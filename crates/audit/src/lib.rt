@@ -3,7 +3,7 @@
 // Is there an order of insertions that makes this table? From empty marks the check takes, again and again, the smallest
 // unplaced occupied slot that is ready: an insertion of its identity into the placed part would be answered as inserted at
 // that very slot. The placed part is itself a table, the image's words with the marks for flags, so that readiness is a
-// search of the funnel crate.
+// search of a funnel table.
 //
 //     0              slots below n - s: ordinary               n - s    primary, fallback     n
 //     | one rising pass: a slot depends on smaller ones only   | the smallest candidate first |

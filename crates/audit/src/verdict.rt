@@ -9,9 +9,9 @@ ghost use Rattle.audit.specs.Verdicts.{Judged, Offered};
 ghost use Rattle.funnel.specs.Path.{primaryStart};
 ghost use Rattle.funnel.specs.Valid.{Valid};
 ghost use Rattle.waiting.specs.Links.{space};
-use funnel::search::find_ordinary;
 use funnel::table::FunnelTable;
 use funnel::table::Search;
+use funnel_search::search::find_ordinary;
 use queue::keep::add;
 use waiting::chain::clear;
 

@@ -9,12 +9,12 @@ ghost use Rattle.funnel.specs.Search.{findOf};
 ghost use Rattle.funnel.specs.Stop.{StopsAt};
 ghost use Rattle.funnel.specs.Valid.{Valid};
 use funnel::scan::pass;
-use funnel::search::find;
-use funnel::search::first_bucket;
 use funnel::table::FunnelTable;
 use funnel::table::Search;
 use funnel::table::Stop;
 use funnel::table::slot_of;
+use funnel_search::search::find;
+use funnel_search::search::first_bucket;
 use probe::word::funnel_key;
 
 // Whether a slot is ready, with some placed.
@@ -48,7 +48,7 @@ pub fn is_ready(
     }
 }
 
-// The slot that the levels settle a search of the placed part with. This is the walk of `funnel::search::pass_levels` once more, since
+// The slot that the levels settle a search of the placed part with. This is the walk of `funnel_search::search::pass_levels` once more, since
 // a walk is compiled into its caller only where it has no other, and both loops gain by that.
 fn pass_placed(
     table: FunnelTable,

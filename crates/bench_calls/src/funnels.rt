@@ -1,7 +1,6 @@
 // Funnel tables, whose numbers travel as n, e, seed, word cap, count and the plan.
 ghost use Rattle.funnel.specs.Valid.{Valid};
 use crate::put_plan;
-use funnel::search::find;
 use funnel::table::FunnelTable;
 use funnel::table::InsertAnswer;
 use funnel::table::Insertion;
@@ -13,6 +12,7 @@ use funnel_calls::calls::insert;
 use funnel_calls::calls::open;
 use funnel_calls::calls::place_all;
 use funnel_calls::calls::table_gate;
+use funnel_search::search::find;
 use geometry::config::Gated;
 use geometry::funnel::FunnelPlan;
 

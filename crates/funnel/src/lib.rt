@@ -1,6 +1,6 @@
-// Funnel tables: the path of an identity, the search along it, and what every call on a table is to answer. Carries `FunnelPrf` and
-// the searches of `ScalarFunnel` of the Rust's reference.rs, and 01's "Tables" as far as it is about funnels. Insertion and the public calls are
-// in `funnel_calls`: a crate is proved as a whole, so the two halves are two crates.
+// Funnel tables: the path of an identity, the walks over its slots, and what every call on a table is to answer. Carries 01's "Tables" as
+// far as it is about funnels. The search is in `funnel_search`, insertion in `funnel_insert`, the public calls are in `funnel_calls`: a
+// crate is proved as a whole, so each part is a crate.
 //
 // A table is a small state by value, with the counts of its levels, n words and n flags lent beside it. Its slots lie side
 // by side:
@@ -15,11 +15,9 @@
 //
 //     table.rt      the state, and what the calls answer
 //     scan.rt       walks over slots, the only readers of the buffers
-//     search.rt     the stages of a path, and the search along all of it, in a valid table; the levels alone, told by the slot
 //
 // specs/Path.antt says what a path is, Search.antt and Insert.antt what a search and an insertion are, Calls.antt what the
 // public calls answer; FreshLaws.antt has the theorems about a table over time.
 
 pub mod scan;
-pub mod search;
 pub mod table;

@@ -65,7 +65,7 @@ pub fn search(
 {
     match table_gate(table, counts, words.len() as u64, flags.len() as u64) {
         Gated::Refused(g) => SearchAnswer::Gate(g),
-        Gated::Passed => SearchAnswer::Found(funnel::search::find(
+        Gated::Passed => SearchAnswer::Found(funnel_search::search::find(
             table,
             counts,
             words,
@@ -87,7 +87,7 @@ pub fn insert(
 {
     match table_gate(table, counts, words.len() as u64, flags.len() as u64) {
         Gated::Refused(g) => InsertAnswer::Gate(g),
-        Gated::Passed => InsertAnswer::Done(crate::insert::insert(
+        Gated::Passed => InsertAnswer::Done(funnel_insert::insert::insert(
             table,
             counts,
             words,

@@ -4,8 +4,6 @@ ghost use Prim.Native.Nat.{_≤_};
 ghost use lib.ListN.{length};
 ghost use Rattle.funnel.specs.Insert.{withCount, settledOf, Settles, placed, placeAllOf};
 ghost use Rattle.funnel.specs.Valid.{Valid};
-use crate::insert::put;
-use funnel::search::pass_levels;
 use funnel::table::FunnelTable;
 use funnel::table::Insertion;
 use funnel::table::PlacedAll;
@@ -14,6 +12,8 @@ use funnel::table::Settled;
 use funnel::table::Stop;
 use funnel::table::slot_of;
 use funnel::table::with_count;
+use funnel_insert::insert::put;
+use funnel_search::search::pass_levels;
 
 // For each identity the slot where it is or was put, up to the first refusal. Slots past that are left as they were.
 pub fn place_all(

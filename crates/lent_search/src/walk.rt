@@ -1,4 +1,4 @@
-// The search for an identity over words lent as bytes: the stages of its path, one function each, as in funnel's search.rt.
+// The search for an identity over words lent as bytes: the stages of its path, one function each, as in funnel_search's search.rt.
 ghost use mathlib.Core.Path.{_≡_};
 ghost use Prim.Native.Nat.{_*_};
 ghost use lib.ListN.{length};
@@ -12,12 +12,12 @@ use crate::scan::pass;
 use crate::scan::read;
 use crate::scan::scan;
 use crate::scan::scan_pairs;
-use funnel::search::draw_level;
-use funnel::search::first_bucket;
-use funnel::search::sample;
 use funnel::table::FunnelTable;
 use funnel::table::Search;
 use funnel::table::Stop;
+use funnel_search::search::draw_level;
+use funnel_search::search::first_bucket;
+use funnel_search::search::sample;
 use probe::counter::Domain;
 use probe::range::Drawn;
 use probe::word::FunnelKey;
@@ -107,7 +107,7 @@ fn search_levels(
     Search::Full { probes }
 }
 
-// The slot that the levels settle a search with, as in funnel's `pass_levels`. What first words do not settle is left to `find`.
+// The slot that the levels settle a search with, as in funnel_search's `pass_levels`. What first words do not settle is left to `find`.
 pub fn pass_levels(
     table: FunnelTable,
     counts: &[u64; 118],
