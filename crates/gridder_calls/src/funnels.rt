@@ -15,7 +15,7 @@ use funnel_calls::calls::open_gate;
 use funnel_calls::calls::table_gate;
 use geometry::config::Gated;
 use geometry::funnel::FunnelPlanned;
-use geometry::funnel::funnel_plan;
+use geometry_funnel::plan::funnel_plan;
 use gridder::answer::ANSWER_LENGTH;
 use gridder::answer::say_gate;
 use gridder::answer::say_insertion;
