@@ -5,8 +5,8 @@ mod images;
 
 use geometry::funnel::FunnelPlan;
 use geometry::funnel::FunnelPlanned;
-use geometry::funnel::funnel_plan;
-use geometry::funnel::is_funnel_plan;
+use geometry_funnel::plan::funnel_plan;
+use geometry_funnel::plan::is_funnel_plan;
 use probe::counter::Domain;
 use probe::counter::funnel_base;
 use probe::range::Drawn;

@@ -17,12 +17,12 @@ use Rattle.geometry.specs.Config.{maximum}
 use Rattle.geometry.specs.ConfigLaws.{config-pass}
 use Rattle.geometry.specs.Elastic.{levelLength, split, lengthsOf, total, padded, layBy, elasticPlanOf, plannedReport}
 use Rattle.geometry.specs.Special.{loglog}
-use Rattle.probe.specs.Budget.{probesOf, budgetOf, budgetReport}
+use Rattle.elastic_probe.specs.Budget.{probesOf, budgetOf, budgetReport}
 use Rattle.probe.specs.Counter.{elasticPackedOf, packedReport}
-use Rattle.probe.specs.Length.{lengthIn, bitsOf}
+use Rattle.elastic_probe.specs.Length.{lengthIn, bitsOf}
 use Rattle.probe.specs.Mix.{xorBits, mix64Of}
-use Rattle.probe.specs.Phi.{pairs, phi, parse, start, coordsOf}
-use Rattle.probe.specs.Position.{positionOf, positionReport, boundedOf, boundedReport, coordinatesOf, coordinatesReport}
+use Rattle.elastic_probe.specs.Phi.{pairs, phi, parse, start, coordsOf}
+use Rattle.elastic_probe.specs.Position.{positionOf, positionReport, boundedOf, boundedReport, coordinatesOf, coordinatesReport}
 use Rattle.probe.specs.Range.{wordsAt, reduceOf, drawOf, elasticReduceOf, reducedReport}
 use Rattle.probe.specs.Word.{elasticKeyOf, wordOf}
 use Rattle.probe.specs.ReportLaws.{elastic-reduce-report}

@@ -19,8 +19,8 @@ use Rattle.geometry.specs.Elastic.{levelLength, split, levelsOf, lengthsOf, pla
 use Rattle.probe.specs.Word.{elasticKeyOf, wordOf}
 use Rattle.probe.specs.WordLaws.{word-below}
 use Rattle.probe.specs.Range.{wordsAt, reduceOf, drawOf}
-use Rattle.probe.specs.Length.{lengthIn, bitsOf}
-use Rattle.probe.specs.Phi.{pairs, phi}
+use Rattle.elastic_probe.specs.Length.{lengthIn, bitsOf}
+use Rattle.elastic_probe.specs.Phi.{pairs, phi}
 use Rattle.elastic.specs.declared.state.Limits.{Limits}
 use Rattle.elastic.specs.declared.route.Reading.the-variants as reading
 use Rattle.elastic.specs.declared.route.Sought.the-variants as sought

@@ -14,8 +14,8 @@ use Rattle.words.specs.declared.place.PaperProbe.{PaperProbe}
 use Rattle.geometry.specs.declared.config.Gated.{Gated}
 use Rattle.geometry.specs.declared.config.Gated.the-variants as gated
 use Rattle.geometry.specs.Elastic.{lengthAt, offsetAt, batchOf}
-use Rattle.probe.specs.Budget.{probesOf}
-use Rattle.probe.specs.Phi.{phi}
+use Rattle.elastic_probe.specs.Budget.{probesOf}
+use Rattle.elastic_probe.specs.Phi.{phi}
 use Rattle.probe.specs.Word.{elasticKeyOf}
 use Rattle.elastic.specs.declared.state.State.{State}
 use Rattle.elastic.specs.declared.route.Sought.{Sought}

@@ -17,17 +17,17 @@ use Rattle.geometry.specs.declared.config.Gated.the-variants as gated
 use Rattle.geometry.specs.Config.{Configured, maximum}
 use Rattle.geometry.specs.Elastic.{levelsOf, levelLength, lengthsOf, lengthAt, offsetAt, batchFrom, batchOf, quotasOf, cut, laterQuotas, uncutQuotas, split}
 use Rattle.geometry.specs.ElasticLaws.{levels-facts, uncut-later, batch-is}
-use Rattle.probe.specs.Budget.{probesOf, budgetOf}
-use Rattle.probe.specs.BudgetLaws.{probes-most, budget-in-table}
-use Rattle.probe.specs.declared.budget.Budgeted.{Budgeted}
-use Rattle.probe.specs.declared.budget.Budgeted.the-variants as budgeted
-use Rattle.probe.specs.declared.phi.Bounded.{Bounded}
-use Rattle.probe.specs.declared.phi.Coordinate.{Coordinate}
-use Rattle.probe.specs.Phi.{phi}
-use Rattle.probe.specs.PhiLaws.{phi-bound}
-use Rattle.probe.specs.Position.{boundedOf}
+use Rattle.elastic_probe.specs.Budget.{probesOf, budgetOf}
+use Rattle.elastic_probe.specs.BudgetLaws.{probes-most, budget-in-table}
+use Rattle.elastic_probe.specs.declared.budget.Budgeted.{Budgeted}
+use Rattle.elastic_probe.specs.declared.budget.Budgeted.the-variants as budgeted
+use Rattle.elastic_probe.specs.declared.phi.Bounded.{Bounded}
+use Rattle.elastic_probe.specs.declared.phi.Coordinate.{Coordinate}
+use Rattle.elastic_probe.specs.Phi.{phi}
+use Rattle.elastic_probe.specs.PhiLaws.{phi-bound}
+use Rattle.elastic_probe.specs.Position.{boundedOf}
 use Rattle.probe.specs.Word.{elasticKeyOf}
-use Rattle.probe.specs.declared.phi.Bounded.the-variants as bounded
+use Rattle.elastic_probe.specs.declared.phi.Bounded.the-variants as bounded
 use Rattle.elastic.specs.declared.state.State.{State}
 use Rattle.elastic.specs.declared.route.Sought.{Sought}
 use Rattle.elastic.specs.declared.route.Sought.the-variants as sought

@@ -7,7 +7,7 @@ use lib.ListN.{length, getD, set}
 use Rattle.words.specs.declared.place.LogicalProbe.{LogicalProbe}
 use Rattle.words.specs.Pick.{pick}
 use Rattle.geometry.specs.Elastic.{total, levelsOf, lengthAt, offsetAt}
-use Rattle.probe.specs.Phi.{phi}
+use Rattle.elastic_probe.specs.Phi.{phi}
 use Rattle.elastic.specs.declared.state.Limits.{Limits}
 use Rattle.elastic.specs.declared.state.State.{State}
 use Rattle.elastic.specs.declared.state.Opened.the-variants as opening

@@ -18,7 +18,7 @@ use Rattle.geometry.specs.declared.config.Gated.the-variants as gated
 use Rattle.geometry.specs.Config.{Configured}
 use Rattle.geometry.specs.Elastic.{total, levelsOf, lengthsOf, lengthAt, offsetAt}
 use Rattle.geometry.specs.ElasticLaws.{total-take-step, prefix-mono, levels-facts, level-within}
-use Rattle.probe.specs.Phi.{phi}
+use Rattle.elastic_probe.specs.Phi.{phi}
 use Rattle.elastic.specs.declared.state.Limits.{Limits}
 use Rattle.elastic.specs.declared.state.State.{State}
 use Rattle.elastic.specs.declared.state.Opened.{Opened}

@@ -9,7 +9,7 @@ use Rattle.refusal.specs.declared.Name.the-variants as name
 use Rattle.words.specs.Pick.{pick}
 use Rattle.geometry.specs.declared.config.Gated.{Gated}
 use Rattle.geometry.specs.declared.config.Gated.the-variants as gated
-use Rattle.probe.specs.Phi.{Coords, gap, at, coordsOf}
+use Rattle.elastic_probe.specs.Phi.{Coords, gap, at, coordsOf}
 use Rattle.probe.specs.Word.{elasticKeyOf}
 use Rattle.elastic.specs.declared.state.State.{State}
 use Rattle.elastic.specs.declared.route.Reading.{Reading}

@@ -16,12 +16,12 @@ use Rattle.words.specs.Pick.{pick}
 use Rattle.geometry.specs.declared.config.Gated.the-variants as gated
 use Rattle.geometry.specs.Elastic.{levelsOf}
 use Rattle.geometry.specs.ElasticLaws.{levels-facts}
-use Rattle.probe.specs.Length.{bitsOf, lengthIn}
-use Rattle.probe.specs.LengthLaws.{Top}
-use Rattle.probe.specs.Phi.{pairs, Coords, gap, at, start, coordsOf}
-use Rattle.probe.specs.OrderLaws.{pairs-mono}
-use Rattle.probe.specs.PhiLaws.{top-half, top-zero}
-use Rattle.probe.specs.TreeLaws.{Node, node-mapped, node-empty, node-root, node-pos, node-j, Next}
+use Rattle.elastic_probe.specs.Length.{bitsOf, lengthIn}
+use Rattle.elastic_probe.specs.LengthLaws.{Top}
+use Rattle.elastic_probe.specs.Phi.{pairs, Coords, gap, at, start, coordsOf}
+use Rattle.elastic_probe.specs.OrderLaws.{pairs-mono}
+use Rattle.elastic_probe.specs.PhiLaws.{top-half, top-zero}
+use Rattle.elastic_probe.specs.TreeLaws.{Node, node-mapped, node-empty, node-root, node-pos, node-j, Next}
 use Rattle.probe.specs.Word.{elasticKeyOf}
 use Rattle.elastic.specs.declared.state.State.{State}
 use Rattle.elastic.specs.declared.route.Reading.{Reading}

@@ -5,8 +5,8 @@ use Prim.Native.Nat.{ℕ, _+_, _-_, _*_, _/_, _≤_, _<_, min}
 use lib.Dec.{eqb}
 use Rattle.words.specs.Pick.{pick}
 use Rattle.geometry.specs.Elastic.{levelsOf}
-use Rattle.probe.specs.Phi.{Coords, at, coordsOf}
-use Rattle.probe.specs.TreeLaws.{Node}
+use Rattle.elastic_probe.specs.Phi.{Coords, at, coordsOf}
+use Rattle.elastic_probe.specs.TreeLaws.{Node}
 use Rattle.elastic.specs.declared.route.Reading.{Reading}
 use Rattle.elastic.specs.declared.route.Reading.the-variants as reading
 use Rattle.elastic_query.specs.declared.query.QueryAnswer.{QueryAnswer}

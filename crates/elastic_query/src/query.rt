@@ -7,7 +7,7 @@ ghost use mathlib.Core.Path.{_≡_};
 ghost use mathlib.Core.Bool.{Bool, true, false};
 ghost use Prim.Native.Nat.{ℕ, _+_, _*_, _-_, _/_, _<_, _≤_, _^_, min};
 ghost use lib.ListN.{length};
-ghost use Rattle.probe.specs.TreeLaws.{Node, Next, Ends};
+ghost use Rattle.elastic_probe.specs.TreeLaws.{Node, Next, Ends};
 ghost use Rattle.elastic.specs.State.{Valid};
 ghost use Rattle.elastic.specs.Reading.{readingOf, holdsAt};
 ghost use Rattle.elastic_query.specs.Query.{positionsOf, queryOf};

@@ -13,7 +13,7 @@ use funnel::table::FunnelTable;
 use funnel::table::OpenAnswer;
 use funnel_calls::calls::open;
 use geometry::config::Gated;
-use geometry::funnel::funnel_gate;
+use geometry_funnel::plan::funnel_gate;
 use image_calls::calls::Loaded;
 use image_calls::calls::load_image;
 use refusal::Name;

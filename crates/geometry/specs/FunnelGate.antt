@@ -2,7 +2,7 @@
 use mathlib.Core.Bool.{Bool, not}
 use mathlib.Core.Path.{_≡_}
 use mathlib.Core.List.{List, [], _∷_}
-use Prim.Native.Nat.{ℕ, _≤_}
+use Prim.Native.Nat.{ℕ}
 use lib.Dec.{ltb}
 use Rattle.refusal.specs.Table.{nameOf, Report, answered, refused}
 use Rattle.refusal.specs.declared.Gate.the-variants as gate
@@ -11,11 +11,7 @@ use Rattle.geometry.specs.declared.config.Gated.the-variants.{Passed, Re
 use Rattle.geometry.specs.declared.funnel.FunnelPlan.{FunnelPlan}
 use Rattle.geometry.specs.declared.funnel.FunnelPlanned.{FunnelPlanned}
 use Rattle.geometry.specs.declared.funnel.FunnelPlanned.the-variants.{Plan, Refused}
-use Rattle.geometry.specs.declared.funnel.SpecialGated.{SpecialGated}
-use Rattle.geometry.specs.declared.funnel.SpecialGated.the-variants.{Length, Refused as LengthRefused}
-use Rattle.geometry.specs.Config.{Configured, refuseIf, configThen}
-use Rattle.geometry.specs.Extreme.{IsLargest}
-use Rattle.geometry.specs.Special.{SpecialLength}
+use Rattle.geometry.specs.Config.{refuseIf, configThen}
 use Rattle.geometry.specs.Says.{truth}
 use Rattle.geometry.specs.Funnel.{IsPlan}
 use Rattle.geometry.specs.FunnelExist.{layout-dec, plan-dec}
@@ -40,8 +36,3 @@ Planned n e before (Refused g) after = (funnelGate n e ≡ GateRefused g) × (af
 abbrev pub plannedReport : FunnelPlanned → Report
 plannedReport (Plan p) = answered (p .maximum ∷ p .alpha ∷ p .beta ∷ p .«loglog_ceiling» ∷ p .«fallback_bucket_width» ∷ p .«special_len» ∷ p .«first_bucket_count» ∷ [])
 plannedReport (Refused g) = refused (nameOf g) []
-
--- the special length that a plan has, or the refusal that there is instead
-unfoldable pub SpecialOr : (n e : ℕ) → SpecialGated → Type 0
-SpecialOr n e (Length s) = Configured n e × (3 ≤ e) × IsLargest (SpecialLength n e) s
-SpecialOr n e (LengthRefused g) = funnelGate n e ≡ GateRefused g

@@ -13,8 +13,6 @@ use Rattle.geometry.specs.declared.config.Gated.the-variants.{Passed, Re
 use Rattle.geometry.specs.declared.funnel.FunnelPlan.{FunnelPlan}
 use Rattle.geometry.specs.declared.funnel.FunnelPlanned.{FunnelPlanned}
 use Rattle.geometry.specs.declared.funnel.FunnelPlanned.the-variants.{Plan, Refused}
-use Rattle.geometry.specs.declared.funnel.SpecialGated.{SpecialGated}
-use Rattle.geometry.specs.declared.funnel.SpecialGated.the-variants.{Length, Refused as LengthRefused}
 use Rattle.geometry.specs.Config.{Configured, refuseIf, configGate}
 use Rattle.geometry.specs.ConfigLaws.{config-pass, config-refused, config-passed, config-facts, config-gate-facts}
 use Rattle.geometry.specs.Says.{Says}
@@ -24,7 +22,7 @@ use Rattle.geometry.specs.Special.{SpecialLength, FoundFor}
 use Rattle.geometry.specs.Funnel.{IsPlan, Layout}
 use Rattle.geometry.specs.FunnelLaws.{plan-unique}
 use Rattle.geometry.specs.FunnelExist.{layout-dec, plan-dec, special-layout}
-use Rattle.geometry.specs.FunnelGate.{hasLayout, isPlan, funnelGate, Planned, SpecialOr}
+use Rattle.geometry.specs.FunnelGate.{hasLayout, isPlan, funnelGate, Planned}
 
 -- the truth values say what they are the truth of
 pub has-layout-says : (n e : ℕ) → Says (hasLayout n e) (Layout n e)
@@ -117,15 +115,3 @@ module _ (n e : ℕ) (h : configGate n e ≡ Passed) (l : 3 ≤ e) where
 
 pub special-passes : (n e s : ℕ) → Configured n e → 3 ≤ e → IsLargest (SpecialLength n e) s → funnelGate n e ≡ Passed
 special-passes n e s c h l = gate-pass n e (special-layout n e s c h l)
-
-pub special-or-passed : (n e : ℕ) (r : SpecialGated) (s : ℕ) → SpecialOr n e r → r ≡ Length s → Passed ≡ funnelGate n e
-unfolding SpecialOr
-special-or-passed n e r s o h = let f : SpecialOr n e (Length s) = rw h at o in sym (special-passes n e s (f .0) (f .1) (f .2))
-
-pub special-or-refused : (n e : ℕ) (r : SpecialGated) (g : Gate) → SpecialOr n e r → r ≡ LengthRefused g → GateRefused g ≡ funnelGate n e
-unfolding SpecialOr
-special-or-refused n e r g o h = let f : SpecialOr n e (LengthRefused g) = rw h at o in sym f
-
-pub special-or-length : (n e : ℕ) (r : SpecialGated) (s : ℕ) → SpecialOr n e r → r ≡ Length s → Configured n e × (3 ≤ e) × IsLargest (SpecialLength n e) s
-unfolding SpecialOr
-special-or-length n e r s o h = let f : SpecialOr n e (Length s) = rw h at o in f

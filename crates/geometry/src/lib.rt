@@ -7,17 +7,12 @@
 //
 //     config.rt    the tests N, ZEROEXP, SIZE; the largest number of members
 //     elastic.rt   the plan of an elastic table: its gate (1 to 3), its levels and quotas; whether given numbers are that plan
-//     funnel.rt    the plan of a funnel: its gate (1 to 5), its numbers, its counts; whether given numbers are that plan
-//     special.rt   the special length s: the largest of its range, and a test of it without a division
-//     counts.rt    the bucket counts of the levels, each the largest that leaves a sum that can be met
-//     counts_test.rt   a test of the counts by one walk from their end, which is much cheaper than computing them
+//     funnel.rt    the plan of a funnel: its numbers
 //
-// What a plan is stands in specs/Funnel.antt (with Special.antt and Counts.antt), what callers may lean on in FunnelLaws.antt,
-// PartLaws.antt and FunnelGateLaws.antt.
+// The plan of a funnel is worked out and tested in `geometry_funnel`, its special length and its counts in `geometry_parts`: a crate
+// is proved as a whole, so each is one. What a plan is stands here, in specs/Funnel.antt (with Special.antt and Counts.antt), what
+// callers may lean on in FunnelLaws.antt, PartLaws.antt and FunnelGateLaws.antt.
 
 pub mod config;
-mod counts;
-mod counts_test;
 pub mod elastic;
 pub mod funnel;
-mod special;

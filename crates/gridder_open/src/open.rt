@@ -10,7 +10,7 @@ use funnel::table::FunnelTable;
 use funnel_calls::calls::open_gate;
 use geometry::config::Gated;
 use geometry::funnel::FunnelPlanned;
-use geometry::funnel::funnel_plan;
+use geometry_funnel::plan::funnel_plan;
 use gridder_answer::answer::ANSWER_LENGTH;
 use gridder_answer::answer::say_gate;
 use gridder_state::state::STATE_LENGTH;

@@ -7,7 +7,7 @@ use crate::loader::load;
 use funnel::table::FunnelTable;
 use funnel_calls::calls::table_gate;
 use geometry::config::Gated;
-use geometry::funnel::funnel_gate;
+use geometry_funnel::plan::funnel_gate;
 use image::field::LABEL_MOST;
 use image_writer::writer::Written;
 use image_writer::writer::write;

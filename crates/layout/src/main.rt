@@ -9,7 +9,7 @@
 use geometry::elastic::ElasticPlanned;
 use geometry::elastic::elastic_plan;
 use geometry::funnel::FunnelPlanned;
-use geometry::funnel::funnel_plan;
+use geometry_funnel::plan::funnel_plan;
 use refusal::Gate;
 use text::field::OneWord;
 use text::field::decimal;

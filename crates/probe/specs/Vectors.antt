@@ -1,10 +1,8 @@
--- Values from outside, evaluated by the checker: splitmix64's published outputs, words, reductions and phi. Assumes nothing.
+-- Values from outside, evaluated by the checker: splitmix64's published outputs, words and reductions. Assumes nothing.
 use mathlib.Core.Path.{_≡_, refl}
 use Rattle.probe.specs.Mix.{xorBits, xorShift, mix64Of}
 use Rattle.probe.specs.Word.{elasticKeyOf, funnelInOf, funnelOutOf, wordOf, elasticWordOf, funnelWordOf}
 use Rattle.probe.specs.Range.{wordsAt, reduceOf, drawOf, elasticDrawOf, funnelDrawOf, elasticReduceOf, funnelReduceOf}
-use Rattle.probe.specs.Length.{lengthIn, bitsOf}
-use Rattle.probe.specs.Phi.{pairs, phi, at, parse, start, coordsOf}
 use Rattle.probe.specs.declared.counter.Domain.the-variants as domain
 use Rattle.probe.specs.declared.range.Reduced.the-variants as reduced
 
@@ -46,16 +44,3 @@ reduced-third = refl
 pub reduced-none : elasticReduceOf 0 0x61C8864680B583EB 0 0 3 1 ≡ reduced.Range (record { words = 1 })
 unfolding xorBits xorShift mix64Of elasticKeyOf wordOf wordsAt reduceOf drawOf elasticDrawOf elasticReduceOf
 reduced-none = refl
-
--- the last position of a query, and the first with a probe beyond the packing
-pub phi-1-8192 : phi 1 8192 ≡ 984263337
-unfolding phi pairs bitsOf lengthIn
-phi-1-8192 = refl
-
-pub phi-1-8193 : phi 1 8193 ≡ 984263341
-unfolding phi pairs bitsOf lengthIn
-phi-1-8193 = refl
-
-pub coords-last : coordsOf 984263337 ≡ at 1 8192
-unfolding coordsOf start parse bitsOf lengthIn
-coords-last = refl

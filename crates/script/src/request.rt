@@ -11,7 +11,7 @@ use crate::print::say_letter;
 use crate::print::say_nothing;
 use crate::print::say_refused;
 use geometry::config::Gated;
-use geometry::funnel::funnel_gate;
+use geometry_funnel::plan::funnel_gate;
 use refusal::Name;
 use text::buffers::MOST_SLOTS;
 use text::field::field_after;

@@ -4,7 +4,7 @@ use geometry::elastic::ElasticPlanned;
 use geometry::elastic::elastic_plan;
 use geometry::funnel::FunnelPlan;
 use geometry::funnel::FunnelPlanned;
-use geometry::funnel::funnel_plan;
+use geometry_funnel::plan::funnel_plan;
 use script::print::put_said;
 use script::print::say_gate;
 use script::print::say_unknown;

@@ -1,11 +1,11 @@
 // PHI PHB PHINV: positions and coordinates.
-use probe::phi::Bounded;
-use probe::phi::Coordinate;
-use probe::phi::Coordinates;
-use probe::phi::Position;
-use probe::phi::phi;
-use probe::phi::phi_bounded;
-use probe::phi::phi_inverse;
+use elastic_probe::phi::Bounded;
+use elastic_probe::phi::Coordinate;
+use elastic_probe::phi::Coordinates;
+use elastic_probe::phi::Position;
+use elastic_probe::phi::phi;
+use elastic_probe::phi::phi_bounded;
+use elastic_probe::phi::phi_inverse;
 use refusal::Name;
 use script::print::Said;
 use script::print::say_coord;

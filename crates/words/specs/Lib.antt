@@ -5,5 +5,6 @@ pub mod Columns
 pub mod Log
 pub mod LogLaws
 pub mod Pick
+pub mod PickLaws
 pub mod Quotient
 pub mod QuotientLaws

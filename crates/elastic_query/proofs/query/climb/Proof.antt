@@ -1,7 +1,7 @@
 -- `elastic_query::query::climb` meets its contract. The loop's invariant: the node of j ends here. Assumes nothing.
 use Prim.Native.Nat.{_^_, _<_}
 use native.Mathlib.Omega.{arith}
-use Rattle.probe.specs.TreeLaws.{Ends, ends-j, ends-over, ends-up, ends-root, ends-pos}
+use Rattle.elastic_probe.specs.TreeLaws.{Ends, ends-j, ends-over, ends-up, ends-root, ends-pos}
 use Rattle.elastic_query.proofs.query.climb.Statement.{statement}
 use Rattle.elastic_query.proofs.query.climb.Tie as tie
 

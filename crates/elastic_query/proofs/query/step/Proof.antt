@@ -1,6 +1,6 @@
 -- `elastic_query::query::step` meets its contract. Assumes nothing.
 use native.Mathlib.Omega.{arith}
-use Rattle.probe.specs.TreeLaws.{node-j, node-past, node-size, next-down, next-leaf, ends-start}
+use Rattle.elastic_probe.specs.TreeLaws.{node-j, node-past, node-size, next-down, next-leaf, ends-start}
 use borrow.Author.Needs.{needs}
 use Rattle.elastic_query.proofs.query.step.Statement.{statement}
 use Rattle.elastic_query.proofs.query.step.Tie as tie

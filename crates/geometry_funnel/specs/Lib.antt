@@ -1,0 +1,2 @@
+pub mod SpecialGate
+pub mod SpecialGateLaws
