@@ -3,10 +3,10 @@ use elastic::state::Limits;
 use elastic::state::Opened;
 use elastic::state::State;
 use elastic::state::open;
-use elastic_insert::insert::InsertAnswer;
 use elastic_insert::insert::insert;
 use elastic_query::query::QueryAnswer;
 use elastic_query::query::query;
+use elastic_steps::answer::InsertAnswer;
 use geometry::elastic::ElasticPlan;
 
 fn limits_of(s: &[u64; 10]) -> Limits {

@@ -30,7 +30,7 @@ use Rattle.elastic.specs.declared.state.Limits.{Limits}
 use Rattle.elastic.specs.State.{limitsFit, freshOf}
 use Rattle.elastic.specs.StateLaws.{limits-facts}
 use Rattle.elastic.specs.Reading.{readingOf}
-use Rattle.elastic_insert.specs.Insert.{insertOf, refusalReport, insertReport}
+use Rattle.elastic_steps.specs.Insert.{insertOf, refusalReport, insertReport}
 use Rattle.elastic_query.specs.Query.{queryOf, queryReport}
 use Rattle.funnel.specs.declared.table.OpenAnswer.the-variants as opening
 use Rattle.funnel.specs.Calls.{Opens}

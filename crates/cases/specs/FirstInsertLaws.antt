@@ -24,15 +24,15 @@ use Rattle.elastic_probe.specs.Phi.{pairs, phi}
 use Rattle.elastic.specs.declared.state.Limits.{Limits}
 use Rattle.elastic.specs.declared.route.Reading.the-variants as reading
 use Rattle.elastic.specs.declared.route.Sought.the-variants as sought
-use Rattle.elastic_insert.specs.declared.insert.Chosen.the-variants as chosen
-use Rattle.elastic_insert.specs.declared.insert.Case.the-variants.{Batch0}
-use Rattle.elastic_insert.specs.declared.insert.InsertAnswer.the-variants as inserted
-use Rattle.elastic_insert.specs.declared.insert.InsertRefusal.the-variants as refusal
+use Rattle.elastic_steps.specs.declared.answer.Chosen.the-variants as chosen
+use Rattle.elastic_steps.specs.declared.answer.Case.the-variants.{Batch0}
+use Rattle.elastic_steps.specs.declared.answer.InsertAnswer.the-variants as inserted
+use Rattle.elastic_steps.specs.declared.answer.InsertRefusal.the-variants as refusal
 use Rattle.elastic_query.specs.declared.query.QueryAnswer.the-variants as queried
 use Rattle.elastic.specs.State.{limitsFit, countsWithin, countsFit, stateFits, settingGate, gateOf, freshOf}
 use Rattle.elastic.specs.StateLaws.{limits-facts}
 use Rattle.elastic.specs.Reading.{readingOf, holdsAt, seekFrom, seekOf, firstFrom as firstSlot, firstOf}
-use Rattle.elastic_insert.specs.Insert.{uniformOf, stepsOf, chooseOf, done, counted, insertionOf, placeBy, insertOf}
+use Rattle.elastic_steps.specs.Insert.{uniformOf, stepsOf, chooseOf, done, counted, insertionOf, placeBy, insertOf}
 use Rattle.elastic_query.specs.Query.{queryOf}
 use Rattle.elastic_query.specs.QueryLaws.{first-hit}
 

@@ -1,4 +1,2 @@
-pub mod Insert
-pub mod InsertLaws
 pub mod Table
 pub mod TableLaws

@@ -11,13 +11,13 @@ use Rattle.elastic_probe.specs.Phi.{phi}
 use Rattle.elastic.specs.declared.state.Limits.{Limits}
 use Rattle.elastic.specs.declared.state.State.{State}
 use Rattle.elastic.specs.declared.state.Opened.the-variants as opening
-use Rattle.elastic_insert.specs.declared.insert.Case.{Case}
-use Rattle.elastic_insert.specs.declared.insert.InsertRefusal.{InsertRefusal}
-use Rattle.elastic_insert.specs.declared.insert.InsertAnswer.{InsertAnswer}
-use Rattle.elastic_insert.specs.declared.insert.InsertAnswer.the-variants as answer
+use Rattle.elastic_steps.specs.declared.answer.Case.{Case}
+use Rattle.elastic_steps.specs.declared.answer.InsertRefusal.{InsertRefusal}
+use Rattle.elastic_steps.specs.declared.answer.InsertAnswer.{InsertAnswer}
+use Rattle.elastic_steps.specs.declared.answer.InsertAnswer.the-variants as answer
 use Rattle.elastic.specs.State.{opened, openOf}
 use Rattle.elastic.specs.Reading.{vacantAt}
-use Rattle.elastic_insert.specs.Insert.{Done, done, counted, addedTo, insertionOf, insertOf}
+use Rattle.elastic_steps.specs.Insert.{Done, done, counted, addedTo, insertionOf, insertOf}
 
 -- nothing, or one slot, one level count and the count
 pub data Changes (st : State) (cs ws fs : List ℕ) (id : ℕ) : Done → Type 0 where

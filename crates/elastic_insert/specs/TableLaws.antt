@@ -23,18 +23,18 @@ use Rattle.elastic.specs.declared.state.Limits.{Limits}
 use Rattle.elastic.specs.declared.state.State.{State}
 use Rattle.elastic.specs.declared.state.Opened.{Opened}
 use Rattle.elastic.specs.declared.state.Opened.the-variants as opening
-use Rattle.elastic_insert.specs.declared.insert.Case.{Case}
-use Rattle.elastic_insert.specs.declared.insert.InsertRefusal.{InsertRefusal}
-use Rattle.elastic_insert.specs.declared.insert.InsertRefusal.the-variants as refusal
-use Rattle.elastic_insert.specs.declared.insert.InsertAnswer.{InsertAnswer}
-use Rattle.elastic_insert.specs.declared.insert.InsertAnswer.the-variants as answer
-use Rattle.elastic_insert.specs.declared.insert.Chosen.{Chosen}
-use Rattle.elastic_insert.specs.declared.insert.Chosen.the-variants as chosen
+use Rattle.elastic_steps.specs.declared.answer.Case.{Case}
+use Rattle.elastic_steps.specs.declared.answer.InsertRefusal.{InsertRefusal}
+use Rattle.elastic_steps.specs.declared.answer.InsertRefusal.the-variants as refusal
+use Rattle.elastic_steps.specs.declared.answer.InsertAnswer.{InsertAnswer}
+use Rattle.elastic_steps.specs.declared.answer.InsertAnswer.the-variants as answer
+use Rattle.elastic_steps.specs.declared.answer.Chosen.{Chosen}
+use Rattle.elastic_steps.specs.declared.answer.Chosen.the-variants as chosen
 use Rattle.elastic.specs.State.{gateOf, openGate, OpenDone, opened, openBy, openOf, freshOf, Valid}
 use Rattle.elastic.specs.StateLaws.{gate-valid, open-facts}
 use Rattle.elastic.specs.Reading.{vacantAt}
-use Rattle.elastic_insert.specs.Insert.{chooseOf, Done, done, counted, addedTo, insertionOf, placeBy, insertBy, insertOf}
-use Rattle.elastic_insert.specs.InsertLaws.{Taken, choose-taken}
+use Rattle.elastic_steps.specs.Insert.{chooseOf, Done, done, counted, addedTo, insertionOf, placeBy, insertBy, insertOf}
+use Rattle.elastic_steps.specs.InsertLaws.{Taken, choose-taken}
 use Rattle.elastic_insert.specs.Table.{Changes, none, one, occupied, Counted, Reached, fresh, more}
 
 -- ---- what an insertion changes

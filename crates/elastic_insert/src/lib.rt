@@ -1,7 +1,7 @@
-// Elastic tables: insertion. Carries the insertion of the Rust's `ScalarElastic`; `elastic` has the state and the slots of a level.
+// Elastic tables: insertion. Carries the insertion of the Rust's `ScalarElastic`; its steps and its definition are in `elastic_steps`.
 //
-//     insert.rt    the choice of the levels, and the insertion
+//     insert.rt    the tests, the insertion, and what it writes
 //
-// specs/Insert.antt says what an insertion is; Table.antt and TableLaws.antt what holds of a table over time.
+// specs/Table.antt and TableLaws.antt say what holds of a table over time.
 
 pub mod insert;

@@ -13,18 +13,18 @@ use Rattle.refusal.specs.declared.Gate.the-variants as gate
 use Rattle.refusal.specs.declared.Name.the-variants as name
 use Rattle.geometry.specs.declared.config.Gated.{Gated}
 use Rattle.geometry.specs.declared.config.Gated.the-variants.{Passed, Refused}
-use Rattle.elastic_insert.specs.Insert.{Done, done, placeBy, chooseOf, insertOf, insertReport}
-use Rattle.elastic_insert.specs.InsertLaws.{insert-place}
+use Rattle.elastic_steps.specs.Insert.{Done, done, placeBy, chooseOf, insertOf, insertReport}
+use Rattle.elastic_steps.specs.InsertLaws.{insert-place}
 use Rattle.probe.specs.Word.{elasticKeyOf}
 use Rattle.elastic_query.specs.Query.{positionsOf, queryOf, queryReport}
 use Rattle.elastic_query.specs.QueryLaws.{query-walk}
 use Rattle.elastic.specs.Reading.{readingOf, holdsAt}
 use Rattle.elastic.specs.State.{Valid, demand, gateOf, openGate, freshOf}
 use Rattle.elastic.specs.StateLaws.{demand-refused, demand-passed, demand-failed, demand-facts, gate-valid}
-use Rattle.elastic_insert.specs.declared.insert.Insertion.{Insertion}
-use Rattle.elastic_insert.specs.declared.insert.InsertRefusal.{InsertRefusal}
-use Rattle.elastic_insert.specs.declared.insert.InsertAnswer.{InsertAnswer}
-use Rattle.elastic_insert.specs.declared.insert.InsertAnswer.the-variants as inserting
+use Rattle.elastic_steps.specs.declared.answer.Insertion.{Insertion}
+use Rattle.elastic_steps.specs.declared.answer.InsertRefusal.{InsertRefusal}
+use Rattle.elastic_steps.specs.declared.answer.InsertAnswer.{InsertAnswer}
+use Rattle.elastic_steps.specs.declared.answer.InsertAnswer.the-variants as inserting
 use Rattle.elastic_query.specs.declared.query.QueryAnswer.{QueryAnswer}
 use Rattle.elastic.specs.declared.state.Limits.{Limits}
 use Rattle.elastic.specs.declared.state.State.{State}

@@ -10,11 +10,11 @@ use Rattle.refusal.specs.declared.Name.the-variants as name
 use Rattle.words.specs.Pick.{pick}
 use Rattle.geometry.specs.declared.config.Gated.{Gated}
 use Rattle.geometry.specs.declared.config.Gated.the-variants.{Passed, Refused}
-use Rattle.elastic_insert.specs.Insert.{Done, insertOf, insertReport}
+use Rattle.elastic_steps.specs.Insert.{Done, insertOf, insertReport}
 use Rattle.elastic_query.specs.Query.{queryOf, queryReport}
 use Rattle.elastic.specs.State.{demand, gateOf, openGate, freshOf}
-use Rattle.elastic_insert.specs.declared.insert.InsertAnswer.{InsertAnswer}
-use Rattle.elastic_insert.specs.declared.insert.InsertAnswer.the-variants as inserting
+use Rattle.elastic_steps.specs.declared.answer.InsertAnswer.{InsertAnswer}
+use Rattle.elastic_steps.specs.declared.answer.InsertAnswer.the-variants as inserting
 use Rattle.elastic_query.specs.declared.query.QueryAnswer.{QueryAnswer}
 use Rattle.elastic.specs.declared.state.Limits.{Limits}
 use Rattle.elastic.specs.declared.state.State.{State}

@@ -13,7 +13,7 @@ use elastic::state::Limits;
 use elastic::state::State;
 use elastic::state::open_gate;
 use elastic::state::state_gate;
-use elastic_insert::insert::InsertAnswer;
+use elastic_steps::answer::InsertAnswer;
 use geometry::config::Gated;
 use geometry::config::max_insertions;
 use geometry::elastic::ElasticPlan;

@@ -1,14 +1,14 @@
 -- What the calls on elastic tables say in the answer block: the values of the base's report, each at its offset. Assumes nothing.
 use mathlib.Core.List.{List, [], _∷_, _++_}
 use Prim.Native.Nat.{ℕ}
-use Rattle.elastic_insert.specs.Insert.{caseValues, insertReport}
+use Rattle.elastic_steps.specs.Insert.{caseValues, insertReport}
 use Rattle.elastic_query.specs.Query.{queryReport}
-use Rattle.elastic_insert.specs.declared.insert.Case.{Case}
-use Rattle.elastic_insert.specs.declared.insert.Insertion.{Insertion}
-use Rattle.elastic_insert.specs.declared.insert.InsertAnswer.{InsertAnswer}
-use Rattle.elastic_insert.specs.declared.insert.InsertAnswer.the-variants as inserting
-use Rattle.elastic_insert.specs.declared.insert.InsertRefusal.{InsertRefusal}
-use Rattle.elastic_insert.specs.declared.insert.InsertRefusal.the-variants as refusal
+use Rattle.elastic_steps.specs.declared.answer.Case.{Case}
+use Rattle.elastic_steps.specs.declared.answer.Insertion.{Insertion}
+use Rattle.elastic_steps.specs.declared.answer.InsertAnswer.{InsertAnswer}
+use Rattle.elastic_steps.specs.declared.answer.InsertAnswer.the-variants as inserting
+use Rattle.elastic_steps.specs.declared.answer.InsertRefusal.{InsertRefusal}
+use Rattle.elastic_steps.specs.declared.answer.InsertRefusal.the-variants as refusal
 use Rattle.elastic_query.specs.declared.query.QueryAnswer.{QueryAnswer}
 use Rattle.elastic_query.specs.declared.query.QueryAnswer.the-variants as querying
 use Rattle.gridder_answer.specs.Answer.{Field, field, probesAt, kindAt, levelAt, bucketAt, withinAt, slotAt, wordsAt}

@@ -5,14 +5,14 @@ use Prim.Native.Nat.{ℕ}
 use lib.ListN.{length, replicate, length-replicate}
 use lib.Seq.{sets}
 use Rattle.words.specs.Bytes.{bytesOf}
-use Rattle.elastic_insert.specs.Insert.{refusalReport, insertReport}
+use Rattle.elastic_steps.specs.Insert.{refusalReport, insertReport}
 use Rattle.elastic_query.specs.Query.{queryReport}
-use Rattle.elastic_insert.specs.declared.insert.Case.{Case}
-use Rattle.elastic_insert.specs.declared.insert.Case.the-variants.{Batch0, Case1, Case2, Case3}
-use Rattle.elastic_insert.specs.declared.insert.Insertion.{Insertion}
-use Rattle.elastic_insert.specs.declared.insert.InsertAnswer.{InsertAnswer}
-use Rattle.elastic_insert.specs.declared.insert.InsertAnswer.the-variants as inserting
-use Rattle.elastic_insert.specs.declared.insert.InsertRefusal.{InsertRefusal}
+use Rattle.elastic_steps.specs.declared.answer.Case.{Case}
+use Rattle.elastic_steps.specs.declared.answer.Case.the-variants.{Batch0, Case1, Case2, Case3}
+use Rattle.elastic_steps.specs.declared.answer.Insertion.{Insertion}
+use Rattle.elastic_steps.specs.declared.answer.InsertAnswer.{InsertAnswer}
+use Rattle.elastic_steps.specs.declared.answer.InsertAnswer.the-variants as inserting
+use Rattle.elastic_steps.specs.declared.answer.InsertRefusal.{InsertRefusal}
 use Rattle.elastic_query.specs.declared.query.Finding.{Finding}
 use Rattle.elastic_query.specs.declared.query.QueryAnswer.{QueryAnswer}
 use Rattle.elastic_query.specs.declared.query.QueryAnswer.the-variants as querying

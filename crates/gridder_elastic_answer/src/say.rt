@@ -1,15 +1,15 @@
 // What the calls on elastic tables say, in the answer block of `gridder_answer` (see lib.rt for the offsets).
 ghost use mathlib.Core.Path.{_≡_};
 ghost use lib.ListN.{length, replicate};
-ghost use Rattle.elastic_insert.specs.Insert.{refusalReport, insertReport};
+ghost use Rattle.elastic_steps.specs.Insert.{refusalReport, insertReport};
 ghost use Rattle.elastic_query.specs.Query.{queryReport};
 ghost use Rattle.gridder_answer.specs.Answer.{stored, says, reply};
 ghost use Rattle.gridder_elastic_answer.specs.Say.{fieldsAt, refusedAt, fiveFields, caseFields, insertedFields, insertFields, queryFields};
-use elastic_insert::insert::Case;
-use elastic_insert::insert::InsertAnswer;
-use elastic_insert::insert::InsertRefusal;
-use elastic_insert::insert::Insertion;
 use elastic_query::query::QueryAnswer;
+use elastic_steps::answer::Case;
+use elastic_steps::answer::InsertAnswer;
+use elastic_steps::answer::InsertRefusal;
+use elastic_steps::answer::Insertion;
 use gridder_answer::answer::LEVEL;
 use gridder_answer::answer::SLOT;
 use gridder_answer::answer::WITHIN;

@@ -1,14 +1,14 @@
 // What an insertion or a query is answered.
 use elastic::state::State;
-use elastic_insert::insert::Case;
-use elastic_insert::insert::InsertAnswer;
-use elastic_insert::insert::InsertRefusal;
-use elastic_insert::insert::Inserted;
-use elastic_insert::insert::Insertion;
 use elastic_insert::insert::insert;
 use elastic_query::query::Finding;
 use elastic_query::query::QueryAnswer;
 use elastic_query::query::query;
+use elastic_steps::answer::Case;
+use elastic_steps::answer::InsertAnswer;
+use elastic_steps::answer::InsertRefusal;
+use elastic_steps::answer::Inserted;
+use elastic_steps::answer::Insertion;
 use refusal::Name;
 use script::print::Said;
 use script::print::letter_and;

@@ -1,7 +1,7 @@
 -- `elastic_insert::insert::insert` meets its contract: the gate refuses, or the insertion of a table whose tests passed. Assumes nothing.
 use mathlib.Core.Path.{sym, _∙_}
 use Rattle.elastic.specs.StateLaws.{gate-valid}
-use Rattle.elastic_insert.specs.InsertLaws.{insert-gate, insert-place}
+use Rattle.elastic_steps.specs.InsertLaws.{insert-gate, insert-place}
 use borrow.Author.Needs.{needs}
 use Rattle.elastic_insert.proofs.insert.insert.Statement.{statement}
 use Rattle.elastic_insert.proofs.insert.insert.Tie as tie

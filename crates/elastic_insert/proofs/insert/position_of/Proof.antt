@@ -1,5 +1,5 @@
 -- `elastic_insert::insert::position_of` meets its contract: the position fits a word. Assumes nothing.
-use Rattle.elastic_insert.specs.InsertLaws.{position-is, position-coord, position-over}
+use Rattle.elastic_steps.specs.InsertLaws.{position-is, position-coord, position-over}
 use borrow.Author.Needs.{needs}
 use Rattle.elastic_insert.proofs.insert.position_of.Statement.{statement}
 use Rattle.elastic_insert.proofs.insert.position_of.Tie as tie

@@ -1,7 +1,7 @@
 -- `gridder_elastic_answer::say::say_refusal` meets its contract. By the refusal. Assumes nothing.
 use Rattle.gridder_elastic_answer.specs.SayLaws.{zeros-long, refusal-bare, refusal-one}
 use Rattle.gridder_elastic_answer.specs.Say.{fieldsAt}
-use Rattle.elastic_insert.specs.Insert.{refusalReport}
+use Rattle.elastic_steps.specs.Insert.{refusalReport}
 use Rattle.refusal.specs.Table.{numberOf}
 use native.Mathlib.Omega.{arith}
 use mathlib.Core.Path.{refl, ap, _∙_}

@@ -1,6 +1,6 @@
 -- `lent_elastic::insert::choose` meets its contract: each return is a law of the choice. Assumes nothing.
 use native.Mathlib.Omega.{arith}
-use Rattle.elastic_insert.specs.InsertLaws.{choose-duplicate, choose-exhausted, choose-steps, batch-code, valid-batch}
+use Rattle.elastic_steps.specs.InsertLaws.{choose-duplicate, choose-exhausted, choose-steps, batch-code, valid-batch}
 use borrow.Author.Needs.{needs}
 use Rattle.lent_elastic.proofs.insert.choose.Statement.{statement}
 use Rattle.lent_elastic.proofs.insert.choose.Tie as tie

@@ -1,7 +1,7 @@
 -- `lent_elastic::insert::place` meets its contract: the slot that is chosen is vacant and lies in its level, so all writes are within bounds. Assumes nothing.
 use mathlib.Core.Path.{sym, _∙_}
 use native.Mathlib.Omega.{arith}
-use Rattle.elastic_insert.specs.InsertLaws.{choose-taken, taken-storable, taken-offset, taken-asked, place-refused, place-position, place-inserted}
+use Rattle.elastic_steps.specs.InsertLaws.{choose-taken, taken-storable, taken-offset, taken-asked, place-refused, place-position, place-inserted}
 use borrow.Author.Needs.{needs}
 use Rattle.lent_elastic.proofs.insert.place.Statement.{statement}
 use Rattle.lent_elastic.proofs.insert.place.Tie as tie

@@ -1,8 +1,8 @@
--- `elastic_insert::insert::steps` meets its contract. Assumes nothing.
-use Rattle.elastic_insert.specs.InsertLaws.{steps-first, steps-later}
+-- `elastic_steps::steps::steps` meets its contract. Assumes nothing.
+use Rattle.elastic_steps.specs.InsertLaws.{steps-first, steps-later}
 use borrow.Author.Needs.{needs}
-use Rattle.elastic_insert.proofs.insert.steps.Statement.{statement}
-use Rattle.elastic_insert.proofs.insert.steps.Tie as tie
+use Rattle.elastic_steps.proofs.steps.steps.Statement.{statement}
+use Rattle.elastic_steps.proofs.steps.steps.Tie as tie
 
 uniform-requires : tie.Need-uniform-requires
 uniform-requires c κs = search needs

@@ -33,19 +33,19 @@ use Rattle.elastic.specs.declared.route.Sought.{Sought}
 use Rattle.elastic.specs.declared.route.Sought.the-variants as sought
 use Rattle.elastic.specs.declared.route.Located.{Located}
 use Rattle.elastic.specs.declared.route.Located.the-variants as located
-use Rattle.elastic_insert.specs.declared.insert.Case.{Case}
-use Rattle.elastic_insert.specs.declared.insert.Case.the-variants.{Batch0, Case1, Case2, Case3}
-use Rattle.elastic_insert.specs.declared.insert.Insertion.{Insertion}
-use Rattle.elastic_insert.specs.declared.insert.InsertRefusal.{InsertRefusal}
-use Rattle.elastic_insert.specs.declared.insert.InsertRefusal.the-variants as refusal
-use Rattle.elastic_insert.specs.declared.insert.InsertAnswer.{InsertAnswer}
-use Rattle.elastic_insert.specs.declared.insert.InsertAnswer.the-variants as answer
-use Rattle.elastic_insert.specs.declared.insert.Chosen.{Chosen}
-use Rattle.elastic_insert.specs.declared.insert.Chosen.the-variants as chosen
+use Rattle.elastic_steps.specs.declared.answer.Case.{Case}
+use Rattle.elastic_steps.specs.declared.answer.Case.the-variants.{Batch0, Case1, Case2, Case3}
+use Rattle.elastic_steps.specs.declared.answer.Insertion.{Insertion}
+use Rattle.elastic_steps.specs.declared.answer.InsertRefusal.{InsertRefusal}
+use Rattle.elastic_steps.specs.declared.answer.InsertRefusal.the-variants as refusal
+use Rattle.elastic_steps.specs.declared.answer.InsertAnswer.{InsertAnswer}
+use Rattle.elastic_steps.specs.declared.answer.InsertAnswer.the-variants as answer
+use Rattle.elastic_steps.specs.declared.answer.Chosen.{Chosen}
+use Rattle.elastic_steps.specs.declared.answer.Chosen.the-variants as chosen
 use Rattle.elastic.specs.State.{gateOf, LimitsFacts, Valid, Searching, Pairing, Affordable}
 use Rattle.elastic.specs.Reading.{seekOf, firstOf, Probed, Seekable}
 use Rattle.elastic.specs.ReadingLaws.{probed-offset, probed-few, probed-length, probed-within, Vacancy, seek-vacant, IsFirst, first-is}
-use Rattle.elastic_insert.specs.Insert.{uniformBy, uniformOf, budgetedBy, budgetedOf, freeAt, currentLow, nextLow, pairBy, pairOf, stepsOf, chooseBy, chooseOf, Done, done, counted, addedTo, Storable, takenAt, insertionOf, placeBy, insertBy, insertOf}
+use Rattle.elastic_steps.specs.Insert.{uniformBy, uniformOf, budgetedBy, budgetedOf, freeAt, currentLow, nextLow, pairBy, pairOf, stepsOf, chooseBy, chooseOf, Done, done, counted, addedTo, Storable, takenAt, insertionOf, placeBy, insertBy, insertOf}
 
 -- ---- what is asked of the searches
 

@@ -1,8 +1,8 @@
--- `elastic_insert::insert::uniform` meets its contract: each return is a law of the search. Assumes nothing.
-use Rattle.elastic_insert.specs.InsertLaws.{uniform-vacant, uniform-passed, uniform-refused}
+-- `elastic_steps::steps::uniform` meets its contract: each return is a law of the search. Assumes nothing.
+use Rattle.elastic_steps.specs.InsertLaws.{uniform-vacant, uniform-passed, uniform-refused}
 use borrow.Author.Needs.{needs}
-use Rattle.elastic_insert.proofs.insert.uniform.Statement.{statement}
-use Rattle.elastic_insert.proofs.insert.uniform.Tie as tie
+use Rattle.elastic_steps.proofs.steps.uniform.Statement.{statement}
+use Rattle.elastic_steps.proofs.steps.uniform.Tie as tie
 
 seek-level-requires : tie.Need-seek-level-requires
 seek-level-requires c κs = search needs

@@ -1,9 +1,9 @@
--- `elastic_insert::insert::room_of` meets its contract: a level counts no more members than it has slots. Assumes nothing.
+-- `elastic_steps::steps::room_of` meets its contract: a level counts no more members than it has slots. Assumes nothing.
 use native.Mathlib.Omega.{arith}
-use Rattle.elastic_insert.specs.InsertLaws.{searching-few, searching-length}
+use Rattle.elastic_steps.specs.InsertLaws.{searching-few, searching-length}
 use borrow.Author.Needs.{needs}
-use Rattle.elastic_insert.proofs.insert.room_of.Statement.{statement}
-use Rattle.elastic_insert.proofs.insert.room_of.Tie as tie
+use Rattle.elastic_steps.proofs.steps.room_of.Statement.{statement}
+use Rattle.elastic_steps.proofs.steps.room_of.Tie as tie
 
 sub-level-length : tie.Need-sub-level-length
 sub-level-length c = search needs

@@ -1,8 +1,8 @@
--- `elastic_insert::insert::then_next` meets its contract: each return is a law of the search. Assumes nothing.
-use Rattle.elastic_insert.specs.InsertLaws.{budgeted-vacant, budgeted-passed, budgeted-refused}
+-- `elastic_steps::steps::then_next` meets its contract: each return is a law of the search. Assumes nothing.
+use Rattle.elastic_steps.specs.InsertLaws.{budgeted-vacant, budgeted-passed, budgeted-refused}
 use borrow.Author.Needs.{needs}
-use Rattle.elastic_insert.proofs.insert.then_next.Statement.{statement}
-use Rattle.elastic_insert.proofs.insert.then_next.Tie as tie
+use Rattle.elastic_steps.proofs.steps.then_next.Statement.{statement}
+use Rattle.elastic_steps.proofs.steps.then_next.Tie as tie
 
 seek-level-requires : tie.Need-seek-level-requires
 seek-level-requires c κs = search needs

@@ -1,8 +1,8 @@
--- `elastic_insert::insert::probes_of` meets its contract: the budget is given. Assumes nothing.
-use Rattle.elastic_insert.specs.InsertLaws.{budget-probes, budget-never}
+-- `elastic_steps::steps::probes_of` meets its contract: the budget is given. Assumes nothing.
+use Rattle.elastic_steps.specs.InsertLaws.{budget-probes, budget-never}
 use borrow.Author.Needs.{needs}
-use Rattle.elastic_insert.proofs.insert.probes_of.Statement.{statement}
-use Rattle.elastic_insert.proofs.insert.probes_of.Tie as tie
+use Rattle.elastic_steps.proofs.steps.probes_of.Statement.{statement}
+use Rattle.elastic_steps.proofs.steps.probes_of.Tie as tie
 
 budget-requires : tie.Need-budget-requires
 budget-requires c κs = search needs

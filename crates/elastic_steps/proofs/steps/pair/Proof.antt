@@ -1,9 +1,9 @@
--- `elastic_insert::insert::pair` meets its contract: each return is a law of the pair. Assumes nothing.
+-- `elastic_steps::steps::pair` meets its contract: each return is a law of the pair. Assumes nothing.
 use native.Mathlib.Omega.{arith}
-use Rattle.elastic_insert.specs.InsertLaws.{pairing-room, pair-schedule, pair-next, pair-current, pair-neither}
+use Rattle.elastic_steps.specs.InsertLaws.{pairing-room, pair-schedule, pair-next, pair-current, pair-neither}
 use borrow.Author.Needs.{needs}
-use Rattle.elastic_insert.proofs.insert.pair.Statement.{statement}
-use Rattle.elastic_insert.proofs.insert.pair.Tie as tie
+use Rattle.elastic_steps.proofs.steps.pair.Statement.{statement}
+use Rattle.elastic_steps.proofs.steps.pair.Tie as tie
 
 add-next : tie.Need-add-next
 add-next c = search needs

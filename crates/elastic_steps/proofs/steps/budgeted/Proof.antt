@@ -1,7 +1,7 @@
--- `elastic_insert::insert::budgeted` meets its contract: the budget is that of the rules. Assumes nothing.
+-- `elastic_steps::steps::budgeted` meets its contract: the budget is that of the rules. Assumes nothing.
 use borrow.Author.Needs.{needs}
-use Rattle.elastic_insert.proofs.insert.budgeted.Statement.{statement}
-use Rattle.elastic_insert.proofs.insert.budgeted.Tie as tie
+use Rattle.elastic_steps.proofs.steps.budgeted.Statement.{statement}
+use Rattle.elastic_steps.proofs.steps.budgeted.Tie as tie
 
 add-next : tie.Need-add-next
 add-next c = search needs
