@@ -1,60 +1,55 @@
--- Laws of the smallest slot that passes a test. Assumes nothing.
+-- Laws of the smallest slot that passes a test: it is the smallest number that does, so they are the queue's. Assumes nothing.
 use mathlib.Core.Bool.{Bool, true, false}
-use mathlib.Core.Logic.{⊎-elim}
 use mathlib.Core.Path.{_≡_, refl, ap, sym, _∙_}
 use Prim.Native.Nat.{ℕ, zero, suc, _+_, _-_, _≤_, _<_}
-use native.Mathlib.Nat.{eq-or-lt-of-le}
 use native.Mathlib.Omega.{arith}
 use Rattle.words.specs.Pick.{pick}
+use Rattle.queue.specs.FirstLaws as numbers
+use Rattle.queue.specs.Queue.{firstIn, Found}
+use Rattle.queue.specs.declared.scan.Smallest.{Smallest}
+use Rattle.queue.specs.declared.scan.Smallest.the-variants as smallest
+use Rattle.audit.specs.declared.slots.First.{First}
 use Rattle.audit.specs.declared.slots.First.the-variants.{At, Nothing}
-use Rattle.audit.specs.Greedy.{firstFrom, Found}
+use Rattle.audit.specs.Greedy.{firstFrom}
+
+abbrev firstOf : Smallest → First
+firstOf (smallest.At s) = At s
+firstOf smallest.Nothing = Nothing
+
+first-is : (test : ℕ → Bool) (from k : ℕ) → firstFrom test from k ≡ firstOf (firstIn test from k)
+unfolding firstFrom firstIn
+first-is test from zero = refl
+first-is test from (suc k) = go (test from) (first-is test (suc from) k)
+  where
+    go : (x : Bool) → firstFrom test (suc from) k ≡ firstOf (firstIn test (suc from) k)
+        → pick x (At from) (firstFrom test (suc from) k) ≡ firstOf (pick x (smallest.At from) (firstIn test (suc from) k))
+    go true e = refl
+    go false e = e
+
+is-at : (x : Smallest) (s : ℕ) → firstOf x ≡ At s → x ≡ smallest.At s
+is-at (smallest.At t) s e = let m : t ≡ s = cc in ap smallest.At m
+is-at smallest.Nothing s e = let z : _≡_ {A = ℕ} 0 1 = cc in absurd (omega arith)
+
+is-none : (x : Smallest) → firstOf x ≡ Nothing → x ≡ smallest.Nothing
+is-none (smallest.At t) e = let z : _≡_ {A = ℕ} 0 1 = cc in absurd (omega arith)
+is-none smallest.Nothing e = refl
 
 -- ---- what the answer says
 
 pub first-found : (test : ℕ → Bool) (from k s : ℕ) → firstFrom test from k ≡ At s → Found test from k s
-unfolding firstFrom
-first-found test from zero s e = let z : _≡_ {A = ℕ} 0 1 = cc in absurd (omega arith)
-first-found test from (suc k) s e = go (test from) refl e (first-found test (suc from) k s)
-  where
-    go : (x : Bool) → test from ≡ x → pick x (At from) (firstFrom test (suc from) k) ≡ At s → (firstFrom test (suc from) k ≡ At s → Found test (suc from) k s) → Found test from (suc k) s
-    go true q e ih =
-        let m : from ≡ s = cc in
-        record { least = omega arith; below = omega arith; holds = rw m at q; before = λ t l h. absurd (omega arith) }
-    go false q e ih =
-        let r = ih e in
-        record {
-          least = omega arith;
-          below = omega arith;
-          holds = r .holds;
-          before = λ t l h. ⊎-elim (λ m. rw m at q) (λ lt. r .before t lt h) (eq-or-lt-of-le l);
-        }
+first-found test from k s e = numbers.first-found test from k s (is-at _ s (sym (first-is test from k) ∙ e))
 
 -- none in the range passes
 pub first-none : (test : ℕ → Bool) (from k : ℕ) → firstFrom test from k ≡ Nothing → (s : ℕ) → from ≤ s → s < from + k → test s ≡ false
-unfolding firstFrom
-first-none test from zero e s h l = absurd (omega arith)
-first-none test from (suc k) e s h l = go (test from) refl e (first-none test (suc from) k)
-  where
-    go : (x : Bool) → test from ≡ x → pick x (At from) (firstFrom test (suc from) k) ≡ Nothing
-        → (firstFrom test (suc from) k ≡ Nothing → (s : ℕ) → suc from ≤ s → s < suc from + k → test s ≡ false) → test s ≡ false
-    go true q e ih = let z : _≡_ {A = ℕ} 0 1 = cc in absurd (omega arith)
-    go false q e ih = ⊎-elim (λ m. rw m at q) (λ lt. ih e s lt (omega arith)) (eq-or-lt-of-le h)
+first-none test from k e = numbers.first-none test from k (is-none _ (sym (first-is test from k) ∙ e))
 
 -- ---- and the other way round
 
-first-suc : (test : ℕ → Bool) (from k : ℕ) → firstFrom test from (suc k) ≡ pick (test from) (At from) (firstFrom test (suc from) k)
-unfolding firstFrom
-first-suc test from k = refl
-
 pub first-at : (test : ℕ → Bool) (from k s : ℕ) → from ≤ s → s < from + k → test s ≡ true → ((t : ℕ) → from ≤ t → t < s → test t ≡ false) → firstFrom test from k ≡ At s
-first-at test from zero s l h e before = absurd (omega arith)
-first-at test from (suc k) s l h e before =
-    first-suc test from k ∙ ⊎-elim (λ m. let q : test from ≡ true = rw m e in rw q (ap At m)) (λ lt. rw (before from (omega arith) lt) (first-at test (suc from) k s lt (omega arith) e (λ t u. before t (omega arith)))) (eq-or-lt-of-le l)
+first-at test from k s l h e before = first-is test from k ∙ ap firstOf (numbers.first-at test from k s l h e before)
 
 pub first-all : (test : ℕ → Bool) (from k : ℕ) → ((t : ℕ) → from ≤ t → t < from + k → test t ≡ false) → firstFrom test from k ≡ Nothing
-unfolding firstFrom
-first-all test from zero h = refl
-first-all test from (suc k) h = rw (h from (omega arith) (omega arith)) (first-all test (suc from) k (λ t u l. h t (omega arith) (omega arith)))
+first-all test from k h = first-is test from k ∙ ap firstOf (numbers.first-all test from k h)
 
 -- two tests that agree on the range
 pub first-alike : (test other : ℕ → Bool) (from k : ℕ) → ((t : ℕ) → from ≤ t → t < from + k → test t ≡ other t) → firstFrom test from k ≡ firstFrom other from k

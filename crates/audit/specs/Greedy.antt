@@ -1,8 +1,7 @@
 -- The order in which the check takes the members of an image: the smallest slot that is ready, again and again. Assumes nothing.
-use mathlib.Core.Bool.{Bool, true, false}
+use mathlib.Core.Bool.{Bool, false}
 use mathlib.Core.List.{List}
-use mathlib.Core.Path.{_≡_}
-use Prim.Native.Nat.{ℕ, zero, suc, _+_, _≤_, _<_}
+use Prim.Native.Nat.{ℕ, zero, suc, _+_}
 use lib.ListN.{getD, set}
 use lib.Dec.{eqb}
 use Rattle.words.specs.Pick.{pick}
@@ -18,13 +17,6 @@ use Rattle.audit.specs.declared.slots.First.the-variants.{At, Nothing}
 unfoldable pub firstFrom : (ℕ → Bool) → (slot k : ℕ) → First
 firstFrom test slot zero = Nothing
 firstFrom test slot (suc k) = pick (test slot) (At slot) (firstFrom test (suc slot) k)
-
--- what that says of a slot s: it is among them, it passes, and none before it does
-pub record Found (test : ℕ → Bool) (slot k s : ℕ) : Type 0 where
-  pub least : slot ≤ s
-  pub below : s < slot + k
-  pub holds : test s ≡ true
-  pub before : (t : ℕ) → slot ≤ t → t < s → test t ≡ false
 
 -- an "unplaced occupied slot": its flag is set and its mark is not
 unfoldable pub unplaced : (flags marks : List ℕ) → ℕ → Bool

@@ -13,7 +13,7 @@ use Rattle.audit_calls.specs.declared.check.Checked.the-variants as checked
 use Rattle.audit.specs.declared.slots.First.the-variants.{At}
 use Rattle.funnel.specs.Dirty.{dirtyAt}
 use Rattle.audit_calls.specs.Check.{Lent, Ended, ended, checkOf}
-use Rattle.audit.specs.Greedy.{Found}
+use Rattle.queue.specs.Queue.{Found}
 use Rattle.audit.specs.FirstLaws.{first-found}
 use Rattle.audit.specs.ReadyLaws.{unplaced-facts, unplaced-yes}
 use Rattle.geometry.specs.Funnel.{IsPlan}
