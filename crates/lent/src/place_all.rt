@@ -14,7 +14,7 @@ use funnel::table::Placement;
 use funnel::table::Settled;
 use funnel::table::Stop;
 use funnel::table::with_count;
-use funnel_calls::place_all::settled;
+use funnel_place::place_all::settled;
 use words::bytes::write64;
 
 // For each identity the slot where it is or was put, up to the first refusal. Slots past that are left as they were.
