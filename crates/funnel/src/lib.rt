@@ -1,6 +1,6 @@
 // Funnel tables: the path of an identity, the walks over its slots, and what every call on a table is to answer. Carries 01's "Tables" as
-// far as it is about funnels. The search is in `funnel_search`, insertion in `funnel_insert`, the public calls are in `funnel_calls`: a
-// crate is proved as a whole, so each part is a crate.
+// far as it is about funnels. The search is in `funnel_stages` and `funnel_search`, insertion in `funnel_insert` and `funnel_place`, the
+// public calls are in `funnel_calls`: a crate is proved as a whole, so each part is a crate.
 //
 // A table is a small state by value, with the counts of its levels, n words and n flags lent beside it. Its slots lie side
 // by side:

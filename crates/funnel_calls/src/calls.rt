@@ -117,7 +117,7 @@ pub fn place_all(
         slots.len() as u64,
     ) {
         Gated::Refused(g) => PlaceAnswer::Gate(g),
-        Gated::Passed => PlaceAnswer::Done(crate::place_all::place_all(
+        Gated::Passed => PlaceAnswer::Done(funnel_place::place_all::place_all(
             table,
             counts,
             words,

@@ -1,36 +1,29 @@
-// The search for an identity: the stages of its path, one function each.
+// The search for an identity: along all of its path, and the levels alone by their first words.
 ghost use mathlib.Core.Path.{_≡_};
-ghost use Prim.Native.Nat.{ℕ, _+_, _*_, _≤_, _<_, _^_};
-ghost use lib.ListN.{length, getD};
-ghost use Rattle.probe.specs.Counter.{levelOf, funnelCounterOf};
-ghost use Rattle.probe.specs.Range.{drawOf};
-ghost use Rattle.funnel.specs.Path.{levelsFrom, primaryFrom, fallbackOf};
+ghost use Prim.Native.Nat.{ℕ, _≤_, _<_};
+ghost use lib.ListN.{getD};
+ghost use Rattle.funnel.specs.Path.{levelsFrom};
 ghost use Rattle.funnel.specs.Search.{searchOf, findOf};
 ghost use Rattle.funnel.specs.Stop.{StopsAt, WalksTo, FirstAhead};
 ghost use Rattle.funnel.specs.declared.table.Search.the-variants.{Full};
-ghost use Rattle.funnel.specs.Valid.{Valid, Keyed, SpecialRoom, Drawable, DrawnAhead};
+ghost use Rattle.funnel.specs.Valid.{Valid, Keyed};
 use funnel::scan::halt;
 use funnel::scan::halted;
 use funnel::scan::pass;
-use funnel::scan::read;
-use funnel::scan::scan;
-use funnel::scan::scan_pairs;
 use funnel::table::FunnelTable;
 use funnel::table::Halt;
 use funnel::table::Search;
 use funnel::table::Stop;
 use funnel::table::Walk;
+use funnel_stages::stages::search_fallback;
+use funnel_stages::stages::search_levels;
+use funnel_stages::stages::search_primary;
 use probe::counter::Domain;
 use probe::counter::funnel_base;
-use probe::range::Drawn;
 use probe::range::first_index;
-use probe::range::funnel_draw;
 use probe::word::FunnelKey;
 use probe::word::funnel_key;
-use refusal::RangeRefusal;
-use words::place::GlobalSlot;
 use words::place::LogicalProbe;
-use words::place::Place;
 
 // The search for an identity in a valid table. Nearly always the walk settles it, or leads past the levels; the stages that may take
 // further words are calls, and get a copy of the table, so that it stays in registers.
@@ -171,47 +164,6 @@ fn walk(
     Walk::Past
 }
 
-// "per level one bucket, slots in order"
-fn search_levels(
-    table: FunnelTable,
-    counts: &[u64; 118],
-    words: &[u64],
-    flags: &[u8],
-    identity: u64,
-    key: FunnelKey,
-) -> Search
-    requires { ⌜ Valid table (now counts) (now words) (now flags) × Keyed (table .seed) identity key ⌝ }
-    ensures { λ r. ⌜ r ≡ searchOf (now (words .entry)) (now (flags .entry)) identity (levelsFrom (table .plan) (now (counts .entry)) (table .seed) (table .«word_cap») identity 0 (table .plan .alpha)) 0 ⌝ }
-{
-    let alpha = table.plan.alpha;
-    let beta = table.plan.beta;
-    let mut level = 0;
-    let mut start = 0;
-    let mut probes = 0;
-    let mut drawn = draw_level(key, counts, alpha, 0, table.word_cap);
-    while level < alpha {
-        match drawn {
-            Drawn::Refused(refusal) => {
-                return Search::Range(refusal);
-            }
-            Drawn::Index { index, words: _ } => {
-                // The next level's bucket is drawn before this one is read, so that it is at hand when this one is full.
-                let ahead = draw_level(key, counts, alpha, level + 1, table.word_cap);
-                let from = start + index * beta;
-                let found = scan(words, flags, identity, level, index, from, beta, probes);
-                let Search::Full { probes: read } = found else {
-                    return found;
-                };
-                probes = read;
-                drawn = ahead;
-            }
-        }
-        start += counts[level as usize] * beta;
-        level += 1;
-    }
-    Search::Full { probes }
-}
-
 // The slot that the levels settle a search with. What first words do not settle is left to `find`.
 pub fn pass_levels(
     table: FunnelTable,
@@ -261,96 +213,4 @@ pub fn first_bucket(key: FunnelKey, counts: &[u64; 118], alpha: u64, level: u64)
         funnel_base(Domain::Ordinary { level }, LogicalProbe(0)),
         counts[level as usize],
     )
-}
-
-// The draw of a level's bucket, where there is such a level.
-pub fn draw_level(key: FunnelKey, counts: &[u64; 118], alpha: u64, level: u64, cap: u64) -> Drawn
-    requires { ⌜ Drawable alpha cap (now counts) ⌝ }
-    ensures { λ r. ⌜ DrawnAhead key (now (counts .entry)) alpha cap level r ⌝ }
-{
-    if alpha <= level {
-        return Drawn::Refused(RangeRefusal { words: 0 });
-    }
-    let count = counts[level as usize];
-    sample(key, Domain::Ordinary { level }, LogicalProbe(0), count, cap)
-}
-
-// "then g primary probes", among the primary slots from `start` on, with some probes made before
-pub fn search_primary(
-    table: FunnelTable,
-    start: u64,
-    words: &[u64],
-    flags: &[u8],
-    identity: u64,
-    key: FunnelKey,
-    probes: u64,
-) -> Search
-    requires { ⌜ SpecialRoom table start (table .plan .«special_primary_len») (length (now words)) (length (now flags)) probes × Keyed (table .seed) identity key ⌝ }
-    ensures { λ r. ⌜ r ≡ searchOf (now (words .entry)) (now (flags .entry)) identity (primaryFrom (table .plan) start (table .seed) (table .«word_cap») identity 0 (table .plan .«loglog_ceiling»)) probes ⌝ }
-{
-    let primary_len = table.plan.special_primary_len;
-    let loglog_ceiling = table.plan.loglog_ceiling;
-    let mut probe = 0;
-    let mut made = probes;
-    while probe < loglog_ceiling {
-        let cap = table.word_cap;
-        match sample(key, Domain::Primary, LogicalProbe(probe), primary_len, cap) {
-            Drawn::Refused(refusal) => {
-                return Search::Range(refusal);
-            }
-            Drawn::Index { index, words: _ } => {
-                let at = start + index;
-                let place = Place::SpecialPrimary {
-                    slot: index,
-                    global_slot: GlobalSlot(at),
-                };
-                let found = read(words, flags, identity, place, at, made);
-                let Search::Full { probes: now_made } = found else {
-                    return found;
-                };
-                made = now_made;
-            }
-        }
-        probe += 1;
-    }
-    Search::Full { probes: made }
-}
-
-// "then buckets A and B both sampled, slot by slot, A before B", among the fallback buckets from `start` on
-pub fn search_fallback(
-    table: FunnelTable,
-    start: u64,
-    words: &[u64],
-    flags: &[u8],
-    identity: u64,
-    key: FunnelKey,
-    probes: u64,
-) -> Search
-    requires { ⌜ SpecialRoom table start (table .plan .«fallback_bucket_count» * table .plan .«fallback_bucket_width») (length (now words)) (length (now flags)) probes × Keyed (table .seed) identity key ⌝ }
-    ensures { λ r. ⌜ r ≡ searchOf (now (words .entry)) (now (flags .entry)) identity (fallbackOf (table .plan) start (table .seed) (table .«word_cap») identity) probes ⌝ }
-{
-    let buckets = table.plan.fallback_bucket_count;
-    let width = table.plan.fallback_bucket_width;
-    let cap = table.word_cap;
-    match sample(key, Domain::FallbackA, LogicalProbe(0), buckets, cap) {
-        Drawn::Refused(refusal) => Search::Range(refusal),
-        Drawn::Index { index: a, words: _ } => {
-            match sample(key, Domain::FallbackB, LogicalProbe(0), buckets, cap) {
-                Drawn::Refused(refusal) => Search::Range(refusal),
-                Drawn::Index { index: b, words: _ } => {
-                    let at_a = start + a * width;
-                    let at_b = start + b * width;
-                    scan_pairs(words, flags, identity, a, b, at_a, at_b, width, probes)
-                }
-            }
-        }
-    }
-}
-
-// An index below upper, by the key of an identity: the Rust's `sample`.
-pub fn sample(key: FunnelKey, domain: Domain, probe: LogicalProbe, upper: u64, cap: u64) -> Drawn
-    requires { ⌜ (levelOf domain < 2 ^ 46) × (probe .0 < 256) × (0 < upper) × (cap ≤ 256) ⌝ }
-    ensures { λ r. ⌜ r ≡ drawOf (key .inner) (key .outer) (funnelCounterOf domain (probe .0) 0) upper cap ⌝ }
-{
-    funnel_draw(key, funnel_base(domain, probe), upper, cap)
 }

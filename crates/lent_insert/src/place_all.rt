@@ -12,7 +12,7 @@ use funnel::table::Placement;
 use funnel::table::Settled;
 use funnel::table::Stop;
 use funnel::table::with_count;
-use funnel_calls::place_all::settled;
+use funnel_place::place_all::settled;
 use lent::word::word_at;
 use lent_search::walk::pass_levels;
 use words::bytes::write64;

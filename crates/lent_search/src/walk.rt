@@ -1,4 +1,4 @@
-// The search for an identity over words lent as bytes: the stages of its path, one function each, as in funnel_search's search.rt.
+// The search for an identity over words lent as bytes: the stages of its path, one function each, as in `funnel_stages` and `funnel_search`.
 ghost use mathlib.Core.Path.{_≡_};
 ghost use Prim.Native.Nat.{_*_};
 ghost use lib.ListN.{length};
@@ -15,9 +15,9 @@ use crate::scan::scan_pairs;
 use funnel::table::FunnelTable;
 use funnel::table::Search;
 use funnel::table::Stop;
-use funnel_search::search::draw_level;
 use funnel_search::search::first_bucket;
-use funnel_search::search::sample;
+use funnel_stages::stages::draw_level;
+use funnel_stages::stages::sample;
 use probe::counter::Domain;
 use probe::range::Drawn;
 use probe::word::FunnelKey;

@@ -1,4 +1,4 @@
--- `funnel_search::search::search_primary` meets its contract. The invariant: the probes that are left give what all give. Assumes nothing.
+-- `funnel_stages::stages::search_primary` meets its contract. The invariant: the probes that are left give what all give. Assumes nothing.
 use Prim.Native.Nat.{_+_, _-_, _≤_}
 use mathlib.Core.Path.{_≡_, sym, _∙_, ap, refl}
 use native.Mathlib.Omega.{arith}
@@ -6,8 +6,8 @@ use borrow.Author.Needs.{needs}
 use Rattle.funnel.specs.SearchLaws.{resume}
 use Rattle.funnel.specs.StageLaws.{drew, drew-below, read-full, PrimaryLeft, primary-none, primary-refused, primary-found, primary-end}
 use Rattle.funnel.proofs.Stays.{stays}
-use Rattle.funnel_search.proofs.search.search_primary.Statement.{statement}
-use Rattle.funnel_search.proofs.search.search_primary.Tie as tie
+use Rattle.funnel_stages.proofs.stages.search_primary.Statement.{statement}
+use Rattle.funnel_stages.proofs.stages.search_primary.Tie as tie
 
 abbrev Inv-loop : tie.InvT-loop
 Inv-loop table start words flags identity key probes primary-len loglog-ceiling probe₀ made₀ probe made = (probe ≤ loglog-ceiling) × (made ≡ probes + probe) × PrimaryLeft (table .plan) start words flags (table .seed) (table .«word_cap») identity probes probe made

@@ -1,8 +1,8 @@
--- `funnel_search::search::draw_level` meets its contract. Past the last level there is nothing to say. Assumes nothing.
+-- `funnel_stages::stages::draw_level` meets its contract. Past the last level there is nothing to say. Assumes nothing.
 use native.Mathlib.Omega.{arith}
 use borrow.Author.Needs.{needs}
-use Rattle.funnel_search.proofs.search.draw_level.Statement.{statement}
-use Rattle.funnel_search.proofs.search.draw_level.Tie as tie
+use Rattle.funnel_stages.proofs.stages.draw_level.Statement.{statement}
+use Rattle.funnel_stages.proofs.stages.draw_level.Tie as tie
 
 returns : tie.Need-returns
 returns c = record { ahead = λ l. absurd (omega (arith, c .if1 .taken, l)) }

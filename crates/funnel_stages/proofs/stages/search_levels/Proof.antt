@@ -1,4 +1,4 @@
--- `funnel_search::search::search_levels` meets its contract. The invariant: the levels that are left give what all give, `start` is where the next begins, its bucket is drawn, and no level takes more than 54 probes. Assumes nothing.
+-- `funnel_stages::stages::search_levels` meets its contract. The invariant: the levels that are left give what all give, `start` is where the next begins, its bucket is drawn, and no level takes more than 54 probes. Assumes nothing.
 use Prim.Native.Nat.{_-_, _≤_, _*_}
 use mathlib.Core.Path.{_≡_, sym, _∙_, ap}
 use native.Mathlib.Omega.{arith}
@@ -11,8 +11,8 @@ use Rattle.funnel.specs.SearchLaws.{resume}
 use Rattle.funnel.specs.StageLaws.{drew, drew-below, LevelsLeft, levels-none, levels-refused, levels-found, levels-end, bucket-full}
 use Rattle.funnel.specs.Valid.{DrawnAhead}
 use Rattle.funnel.proofs.Stays.{stays}
-use Rattle.funnel_search.proofs.search.search_levels.Statement.{statement}
-use Rattle.funnel_search.proofs.search.search_levels.Tie as tie
+use Rattle.funnel_stages.proofs.stages.search_levels.Statement.{statement}
+use Rattle.funnel_stages.proofs.stages.search_levels.Tie as tie
 
 abbrev Inv-loop : tie.InvT-loop
 Inv-loop table counts words flags identity key alpha beta level₀ start₀ probes₀ drawn₀ level start probes drawn =

@@ -1,4 +1,4 @@
--- `funnel_calls::place_all::settle` meets its contract. A slot that the levels settle is that of the whole search; else the insertion is made in full. Assumes nothing.
+-- `funnel_place::place_all::settle` meets its contract. A slot that the levels settle is that of the whole search; else the insertion is made in full. Assumes nothing.
 use mathlib.Core.Path.{subst}
 use native.Mathlib.Omega.{arith}
 use denote.Ref.{now}
@@ -7,8 +7,8 @@ use Rattle.funnel.specs.Search.{findOf}
 use Rattle.funnel.specs.Stop.{StopsAt}
 use Rattle.funnel.specs.SettleLaws.{settles-by, settles-there, settles-put, vacant-slot}
 use borrow.Author.Needs.{needs}
-use Rattle.funnel_calls.proofs.place_all.settle.Statement.{statement}
-use Rattle.funnel_calls.proofs.place_all.settle.Tie as tie
+use Rattle.funnel_place.proofs.place_all.settle.Statement.{statement}
+use Rattle.funnel_place.proofs.place_all.settle.Tie as tie
 
 pass-levels-requires : tie.Need-pass-levels-requires
 pass-levels-requires c κs = search needs

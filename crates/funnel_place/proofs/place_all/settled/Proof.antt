@@ -1,11 +1,11 @@
--- `funnel_calls::place_all::settled` meets its contract. Assumes nothing.
+-- `funnel_place::place_all::settled` meets its contract. Assumes nothing.
 use mathlib.Core.Path.{sym, _∙_, ap}
 use borrow.Author.Needs.{needs}
 use Rattle.funnel.specs.declared.table.Insertion.{Insertion}
 use Rattle.funnel.specs.declared.table.Settled.the-variants as settled
 use Rattle.funnel.specs.Insert.{settledOf}
-use Rattle.funnel_calls.proofs.place_all.settled.Statement.{statement}
-use Rattle.funnel_calls.proofs.place_all.settled.Tie as tie
+use Rattle.funnel_place.proofs.place_all.settled.Statement.{statement}
+use Rattle.funnel_place.proofs.place_all.settled.Tie as tie
 
 enum-known-answer : tie.Need-enum-known-answer
 enum-known-answer c = search needs

@@ -1,11 +1,11 @@
--- `funnel_search::search::search_fallback` meets its contract. By the laws of the two draws. Assumes nothing.
+-- `funnel_stages::stages::search_fallback` meets its contract. By the laws of the two draws. Assumes nothing.
 use mathlib.Core.Path.{_∙_}
 use native.Mathlib.Omega.{arith}
 use borrow.Author.Needs.{needs}
 use Rattle.funnel.specs.PlanLaws.{part-room}
 use Rattle.funnel.specs.StageLaws.{drew, drew-below, fallback-refused-a, fallback-refused-b, fallback-both}
-use Rattle.funnel_search.proofs.search.search_fallback.Statement.{statement}
-use Rattle.funnel_search.proofs.search.search_fallback.Tie as tie
+use Rattle.funnel_stages.proofs.stages.search_fallback.Statement.{statement}
+use Rattle.funnel_stages.proofs.stages.search_fallback.Tie as tie
 
 sample-requires : tie.Need-sample-requires
 sample-requires c κs = search needs

@@ -1,12 +1,12 @@
--- `funnel_calls::place_all::place_all` meets its contract. The invariant: the placement of what is left gives what the whole gives, and the table is valid. Assumes nothing.
+-- `funnel_place::place_all::place_all` meets its contract. The invariant: the placement of what is left gives what the whole gives, and the table is valid. Assumes nothing.
 use Prim.Native.Nat.{_-_}
 use native.Mathlib.Omega.{arith}
 use lib.ListN.{length}
 use borrow.Author.Needs.{needs}
 use Rattle.geometry.specs.FunnelLaws.{plan-facts}
 use Rattle.funnel.specs.PlaceLaws.{Placing, placing-none, placing-lengths, placing-put, placing-there, placing-refused, placing-all, placed-table}
-use Rattle.funnel_calls.proofs.place_all.place_all.Statement.{statement}
-use Rattle.funnel_calls.proofs.place_all.place_all.Tie as tie
+use Rattle.funnel_place.proofs.place_all.place_all.Statement.{statement}
+use Rattle.funnel_place.proofs.place_all.place_all.Tie as tie
 
 abbrev Inv-loop : tie.InvT-loop
 Inv-loop table counts words₀ flags₀ identities slots₀ count₀ i₀ words flags slots count i = Placing table counts words₀ flags₀ identities slots₀ words flags slots count i

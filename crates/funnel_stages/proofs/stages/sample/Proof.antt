@@ -1,8 +1,8 @@
--- `funnel_search::search::sample` meets its contract. The counter is the one that the draw asks for. Assumes nothing.
+-- `funnel_stages::stages::sample` meets its contract. The counter is the one that the draw asks for. Assumes nothing.
 use mathlib.Core.Path.{_∙_}
 use borrow.Author.Needs.{needs}
-use Rattle.funnel_search.proofs.search.sample.Statement.{statement}
-use Rattle.funnel_search.proofs.search.sample.Tie as tie
+use Rattle.funnel_stages.proofs.stages.sample.Statement.{statement}
+use Rattle.funnel_stages.proofs.stages.sample.Tie as tie
 
 funnel-base-requires : tie.Need-funnel-base-requires
 funnel-base-requires c κs = search needs
