@@ -1,4 +1,4 @@
-// The check of a table that passed its gate, as in audit's check.rt, over words and an order lent as bytes.
+// The check of a table that passed its gate, as in `audit_calls`, over words and an order lent as bytes.
 ghost use mathlib.Core.Path.{_≡_};
 ghost use Rattle.audit_calls.specs.Check.{ended, takeAll, auditOf};
 ghost use Rattle.lent.specs.Lent.{wordsOf};

@@ -1,4 +1,4 @@
-// The two passes over the slots, as in audit's pass.rt, over words and an order lent as bytes.
+// The two passes over the slots, as in `audit_pass`, over words and an order lent as bytes.
 ghost use mathlib.Core.Path.{_≡_};
 ghost use Prim.Native.Nat.{_*_, _-_, _≤_};
 ghost use lib.ListN.{length, replicate};

@@ -1,4 +1,4 @@
-// Which slots are ready, as in audit_ready's ready.rt, over words lent as bytes.
+// Which slots are ready, as in `audit_ready`, over words lent as bytes.
 ghost use mathlib.Core.Path.{_≡_};
 ghost use Prim.Native.Nat.{_<_};
 ghost use lib.ListN.{length};
@@ -50,7 +50,7 @@ pub fn is_ready(
 }
 
 // The slot that the levels settle a search of the placed part with. This is the walk of `lent_search::walk::pass_levels` once more, as in
-// audit_ready's ready.rt: a walk is compiled into its caller only where it has no other, and both loops gain by that.
+// `audit_ready`: a walk is compiled into its caller only where it has no other, and both loops gain by that.
 fn pass_placed(
     table: FunnelTable,
     counts: &[u64; 118],

@@ -1,4 +1,4 @@
-// The turns in the special part, as in audit's special.rt, over words and an order lent as bytes.
+// The turns in the special part, as in `audit_special`, over words and an order lent as bytes.
 ghost use mathlib.Core.Path.{_≡_};
 ghost use Prim.Native.Nat.{_*_, _<_};
 ghost use lib.ListN.{length};

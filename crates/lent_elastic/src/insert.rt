@@ -1,4 +1,4 @@
-// Insertion into a valid table whose words are lent as bytes, as in elastic's insert.rt. The steps read flags alone, so they are the
+// Insertion into a valid table whose words are lent as bytes, as in `elastic_insert`. The steps read flags alone, so they are the
 // base's own.
 ghost use mathlib.Core.Path.{_≡_};
 ghost use Prim.Native.Nat.{_+_, _*_, _<_, _≤_};

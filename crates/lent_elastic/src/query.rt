@@ -1,4 +1,4 @@
-// The query of a valid table whose words are lent as bytes, as in elastic's query.rt: the same walk over mapped positions alone.
+// The query of a valid table whose words are lent as bytes, as in `elastic_query`: the same walk over mapped positions alone.
 ghost use mathlib.Core.Path.{_≡_};
 ghost use Prim.Native.Nat.{_+_, _*_, _/_, _<_, _≤_};
 ghost use lib.ListN.{length};

@@ -1,4 +1,4 @@
-// The readers of words lent as bytes: the scan for DIRTY, and the entries of an image, as in image's dirty.rt and writer.rt.
+// The readers of words lent as bytes: the scan for DIRTY, and the entries of an image, as in `image_writer`.
 ghost use mathlib.Core.Path.{_≡_};
 ghost use Prim.Native.Nat.{_+_, _*_, _≤_};
 ghost use lib.ListN.{length};

@@ -1,4 +1,4 @@
-// Buffers filled from a right image, over words lent as bytes, as in image's loader.rt.
+// Buffers filled from a right image, over words lent as bytes, as in the loader of `image_calls`.
 ghost use mathlib.Core.Bool.{true};
 ghost use mathlib.Core.Path.{_≡_};
 ghost use Prim.Native.Nat.{_+_, _*_, _≤_};

@@ -1,4 +1,4 @@
-// Images of funnel tables whose words are lent as little-endian bytes: image_calls' loader and writer over another storage.
+// Images of funnel tables whose words are lent as little-endian bytes: the loader of `image_calls` and the writer of `image_writer` over another storage.
 //
 // The parser reads an image's bytes alone, so it is the base's own; only the loops that read or write words are written again.
 //

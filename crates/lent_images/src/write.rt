@@ -1,4 +1,4 @@
-// The writer over words lent as bytes, as in image's writer.rt.
+// The writer over words lent as bytes, as in `image_writer`.
 ghost use mathlib.Core.Path.{_≡_};
 ghost use Prim.Native.Nat.{_*_, _≤_, _^_};
 ghost use lib.ListN.{length};

@@ -1,4 +1,4 @@
-// Many insertions into a valid table whose words are lent as bytes, as in funnel's place_all.rt. Identities and slots are lent as
+// Many insertions into a valid table whose words are lent as bytes, as in `funnel_place`. Identities and slots are lent as
 // bytes too.
 ghost use mathlib.Core.Path.{_≡_};
 ghost use Prim.Native.Nat.{_≤_};

@@ -1,4 +1,4 @@
-// Insertion into a valid table whose words are lent as bytes, as in funnel's insert.rt.
+// Insertion into a valid table whose words are lent as bytes, as in `funnel_insert`.
 ghost use mathlib.Core.Path.{_≡_};
 ghost use Prim.Native.Nat.{_≤_};
 ghost use Rattle.funnel.specs.Insert.{done, withCount, stepped, insertOf};
