@@ -1,2 +1,4 @@
+pub mod Gate
+pub mod GateLaws
 pub mod Answer
 pub mod AnswerLaws

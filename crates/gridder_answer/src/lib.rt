@@ -15,7 +15,9 @@
 // and of the other calls: 72 position, 80 mapped, 88 gap, 96 byte place, 104 label offset, 112 label length, 120 image length.
 //
 //     answer.rt    the block, filled
+//     gate.rt      the length of a block, tested past the other tests of a call
 //
 // specs/Answer.antt says what it holds.
 
 pub mod answer;
+pub mod gate;

@@ -1,22 +1,18 @@
 -- Laws of the exported calls, by what their gate said. Assumes nothing.
-use mathlib.Core.Bool.{Bool, true, false, not}
-use mathlib.Core.List.{List, [], _∷_}
+use mathlib.Core.Bool.{true, false}
+use mathlib.Core.List.{List, []}
 use mathlib.Core.Path.{_≡_, refl, ap, sym, _∙_}
-use Prim.Native.Nat.{ℕ, _+_, _*_, _≤_, _<_}
+use Prim.Native.Nat.{ℕ, _+_, _*_, _≤_}
 use native.Mathlib.Omega.{arith}
-use lib.Dec.{eqb}
 use lib.ListN.{length, replicate, length-replicate}
-use borrow.Author.Tests.{eq-eqb, ne-eqb, eqb-true}
 use Rattle.refusal.specs.Table.{numberOf, nameOf}
 use Rattle.refusal.specs.declared.Gate.{Gate}
-use Rattle.refusal.specs.declared.Gate.the-variants as gate
 use Rattle.refusal.specs.declared.Name.the-variants as name
 use Rattle.words.specs.declared.place.Place.{Place}
-use Rattle.geometry.specs.Config.{refuseIf}
 use Rattle.geometry.specs.declared.config.Gated.{Gated}
 use Rattle.geometry.specs.declared.config.Gated.the-variants.{Passed, Refused}
 use Rattle.funnel.specs.CallLaws.{gate-valid}
-use Rattle.funnel.specs.Calls.{gateThen, tableGate, searchReport, insertionReport}
+use Rattle.funnel.specs.Calls.{tableGate, searchReport, insertionReport}
 use Rattle.funnel.specs.Insert.{done, stepped, insertOf}
 use Rattle.funnel.specs.Search.{findOf}
 use Rattle.funnel.specs.Valid.{Valid}
@@ -24,6 +20,7 @@ use Rattle.funnel.specs.declared.table.FunnelTable.{FunnelTable}
 use Rattle.funnel.specs.declared.table.Search.{Search}
 use Rattle.funnel.specs.declared.table.Insertion.{Insertion}
 use Rattle.funnel.specs.declared.table.Insertion.the-variants as insertion
+use Rattle.gridder_answer.specs.GateLaws.{block-facts}
 use Rattle.gridder_answer.specs.Answer.{answerLength, says, saying, searchFields, insertionFields, Reply, reply}
 use Rattle.gridder_calls.specs.Calls.{callGate, stateGate, searchReply, searchCall, left, countedIn, insertLeft, insertCall}
 use Rattle.lent.specs.Lent.{wordsOf, wordCount}
@@ -32,19 +29,6 @@ use Rattle.gridder_state.specs.State.{holdsFunnel, tableIn, countsIn, withCount
 use Rattle.lent.specs.Valid.{ValidLent}
 
 -- ---- the gate
-
-module _ (table : FunnelTable) (counts : List ℕ) (words flags answer : ℕ) (r : Gated) (is : r ≡ tableGate table counts words flags) where
-  pub call-refused : (g : Gate) → r ≡ Refused g → Refused g ≡ callGate table counts words flags answer
-  unfolding callGate
-  call-refused g h = let f : tableGate table counts words flags ≡ Refused g = sym is ∙ h in sym (rw f)
-
-  pub call-other : r ≡ Passed → (answer ≡ answerLength → ⊥) → Refused gate.State ≡ callGate table counts words flags answer
-  unfolding callGate
-  call-other h n = let f : tableGate table counts words flags ≡ Passed = sym is ∙ h in sym (rw (f, ne-eqb _ _ n))
-
-  pub call-passed : r ≡ Passed → answer ≡ answerLength → Passed ≡ callGate table counts words flags answer
-  unfolding callGate
-  call-passed h e = let f : tableGate table counts words flags ≡ Passed = sym is ∙ h in sym (rw (f, eq-eqb _ _ e))
 
 -- a table that passes by the number of its words is valid with these words
 pub lent-valid : (table : FunnelTable) (counts words flags : List ℕ) → tableGate table counts (wordCount (length words)) (length flags) ≡ Passed → ValidLent table counts words flags
@@ -76,13 +60,8 @@ pub ready : (table : FunnelTable) (counts words flags answer : List ℕ) → cal
     → Ready table counts words flags answer
 unfolding callGate
 ready table counts words flags answer h =
-    go (tableGate table counts (wordCount (length words)) (length flags)) (eqb (length answer) answerLength) refl refl h
-  where
-    go : (a : Gated) (b : Bool) → tableGate table counts (wordCount (length words)) (length flags) ≡ a → eqb (length answer) answerLength ≡ b
-        → gateThen a (refuseIf (not b) gate.State Passed) ≡ Passed → Ready table counts words flags answer
-    go (Refused g) b p q h = let z : _≡_ {A = ℕ} 0 1 = cc in absurd (omega arith)
-    go Passed false p q h = let z : _≡_ {A = ℕ} 0 1 = cc in absurd (omega arith)
-    go Passed true p q h = record { lent = lent-valid table counts words flags p; room = eqb-true _ _ q }
+    let f = block-facts _ _ _ h in
+    record { lent = lent-valid table counts words flags (f .0); room = f .1 }
 
 pub ready-count : {table : FunnelTable} {counts words flags answer : List ℕ} → Ready table counts words flags answer → (table .count ≤ table .n) × (table .n ≤ 4294967296)
 ready-count r = (r .lent .valid .counted, r .lent .valid .planned .configured .most)

@@ -1,23 +1,20 @@
 -- The exported calls on funnel tables: what each answers and leaves. Assumes nothing.
-use mathlib.Core.Bool.{not}
 use mathlib.Core.List.{List, []}
 use Prim.Native.Nat.{ℕ}
-use lib.Dec.{eqb}
 use lib.ListN.{length}
 use Rattle.refusal.specs.Table.{numberOf, nameOf}
-use Rattle.refusal.specs.declared.Gate.the-variants as gate
 use Rattle.refusal.specs.declared.Name.the-variants as name
 use Rattle.words.specs.Pick.{pick}
-use Rattle.geometry.specs.Config.{refuseIf}
 use Rattle.geometry.specs.declared.config.Gated.{Gated}
 use Rattle.geometry.specs.declared.config.Gated.the-variants.{Passed, Refused}
-use Rattle.funnel.specs.Calls.{gateThen, tableGate, searchReport, insertionReport}
+use Rattle.funnel.specs.Calls.{tableGate, searchReport, insertionReport}
 use Rattle.funnel.specs.Insert.{Done, insertOf}
 use Rattle.funnel.specs.Search.{findOf}
 use Rattle.funnel.specs.declared.table.FunnelTable.{FunnelTable}
 use Rattle.funnel.specs.declared.table.Search.{Search}
 use Rattle.funnel.specs.declared.table.Insertion.{Insertion}
 use Rattle.funnel.specs.declared.table.Insertion.the-variants as insertion
+use Rattle.gridder_answer.specs.Gate.{blockGate}
 use Rattle.gridder_answer.specs.Answer.{answerLength, says, saying, searchFields, insertionFields, Reply, reply}
 use Rattle.lent.specs.Lent.{wordsOf, wordCount}
 use Rattle.gridder_state.specs.State.{holdsFunnel, tableIn, countsIn, withCountIn}
@@ -26,7 +23,7 @@ use Rattle.gridder_state.specs.State.{holdsFunnel, tableIn, countsIn, withCount
 
 -- the tests 1 to 7 of a table, by the number of words and the lengths of flags and answer block
 unfoldable pub callGate : FunnelTable → List ℕ → (words flags answer : ℕ) → Gated
-callGate table counts words flags answer = gateThen (tableGate table counts words flags) (refuseIf (not (eqb answer answerLength)) gate.State Passed)
+callGate table counts words flags answer = blockGate (tableGate table counts words flags) answer answerLength
 
 -- the same for a table in a state block, with words lent as bytes
 abbrev pub stateGate : (state words flags answer : List ℕ) → Gated

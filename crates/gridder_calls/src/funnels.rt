@@ -15,13 +15,13 @@ use gridder_answer::answer::ANSWER_LENGTH;
 use gridder_answer::answer::say_gate;
 use gridder_answer::answer::say_insertion;
 use gridder_answer::answer::say_search;
+use gridder_answer::gate::block_gate;
 use gridder_state::state::read_counts;
 use gridder_state::state::table_in;
 use gridder_state::state::write_count;
 use lent::word::word_count;
 use lent_insert::put::put;
 use lent_search::walk::find;
-use refusal::Gate;
 
 pub fn search_in(state: &[u8], words: &[u8], flags: &[u8], identity: u64, answer: &mut [u8]) -> u64
     requires { ⌜ holdsFunnel (now state) ≡ true ⌝ }
@@ -47,15 +47,11 @@ pub fn call_gate(
 ) -> Gated
     ensures { λ r. ⌜ r ≡ callGate table (now (counts .entry)) words flags answer ⌝ }
 {
-    match table_gate(table, counts, words, flags) {
-        Gated::Refused(g) => Gated::Refused(g),
-        Gated::Passed => {
-            if answer != ANSWER_LENGTH {
-                return Gated::Refused(Gate::State);
-            }
-            Gated::Passed
-        }
-    }
+    block_gate(
+        table_gate(table, counts, words, flags),
+        answer,
+        ANSWER_LENGTH,
+    )
 }
 
 pub fn insert_in(

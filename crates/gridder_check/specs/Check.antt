@@ -1,29 +1,25 @@
 -- The exported check: its gate, and what it answers and leaves. Assumes nothing.
-use mathlib.Core.Bool.{not}
 use mathlib.Core.List.{List, [], _∷_}
 use Prim.Native.Nat.{ℕ}
-use lib.Dec.{eqb}
 use lib.ListN.{length}
 use Rattle.words.specs.Pick.{pick}
 use Rattle.refusal.specs.Table.{numberOf, nameOf}
-use Rattle.refusal.specs.declared.Gate.the-variants as gate
 use Rattle.refusal.specs.declared.Name.the-variants as name
-use Rattle.geometry.specs.Config.{refuseIf}
 use Rattle.geometry.specs.declared.config.Gated.{Gated}
 use Rattle.geometry.specs.declared.config.Gated.the-variants.{Passed, Refused}
-use Rattle.funnel.specs.Calls.{gateThen}
 use Rattle.funnel.specs.declared.table.FunnelTable.{FunnelTable}
 use Rattle.audit_calls.specs.Check.{Ended, auditOf, checkGate, reportOf}
 use Rattle.audit_calls.specs.declared.check.Checked.{Checked}
 use Rattle.audit_calls.specs.declared.check.Checked.the-variants as checked
 use Rattle.lent.specs.Lent.{wordsOf, wordCount}
+use Rattle.gridder_answer.specs.Gate.{blockGate}
 use Rattle.gridder_answer.specs.Answer.{answerLength, Field, field, slotAt, placedAt, says, saying}
 use Rattle.gridder_state.specs.State.{holdsFunnel, tableIn, countsIn}
 
 -- the tests 1 to 7 of a check, by the numbers of words and of places in the order, and the lengths of flags, marks and answer block
 unfoldable pub checkCallGate : FunnelTable → List ℕ → (words flags marks order answer : ℕ) → Gated
 checkCallGate table counts words flags marks order answer =
-    gateThen (checkGate table counts words flags marks order) (refuseIf (not (eqb answer answerLength)) gate.State Passed)
+    blockGate (checkGate table counts words flags marks order) answer answerLength
 
 -- how many members were placed, and the slot of DISORDER or DIRTY
 abbrev pub checkedFields : Checked → List Field

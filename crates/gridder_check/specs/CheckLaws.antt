@@ -1,21 +1,17 @@
 -- Laws of the exported check, by what its gate said. Assumes nothing.
-use mathlib.Core.Bool.{Bool, true, false, not}
+use mathlib.Core.Bool.{true, false}
 use mathlib.Core.List.{List, []}
-use mathlib.Core.Path.{_≡_, refl, ap, sym, _∙_}
-use Prim.Native.Nat.{ℕ, _*_, _<_}
+use mathlib.Core.Path.{_≡_, ap, sym, _∙_}
+use Prim.Native.Nat.{ℕ}
 use native.Mathlib.Omega.{arith}
-use lib.Dec.{eqb}
 use lib.ListN.{length, replicate, length-replicate}
-use borrow.Author.Tests.{eq-eqb, ne-eqb, eqb-true}
 use Rattle.refusal.specs.Table.{numberOf, nameOf}
 use Rattle.refusal.specs.declared.Gate.{Gate}
-use Rattle.refusal.specs.declared.Gate.the-variants as gate
 use Rattle.refusal.specs.declared.Name.the-variants as name
-use Rattle.geometry.specs.Config.{refuseIf}
 use Rattle.geometry.specs.declared.config.Gated.{Gated}
 use Rattle.geometry.specs.declared.config.Gated.the-variants.{Passed, Refused}
 use Rattle.funnel.specs.CallLaws.{valid-gate}
-use Rattle.funnel.specs.Calls.{gateThen, tableGate}
+use Rattle.funnel.specs.Calls.{tableGate}
 use Rattle.funnel.specs.declared.table.FunnelTable.{FunnelTable}
 use Rattle.audit_calls.specs.Check.{ended, auditOf, checkGate, reportOf, Lent}
 use Rattle.audit_calls.specs.CheckLaws.{gate-lent}
@@ -23,6 +19,7 @@ use Rattle.audit_calls.specs.declared.check.Checked.{Checked}
 use Rattle.lent.specs.Lent.{wordsOf, wordCount}
 use Rattle.lent.specs.LentLaws.{count-some}
 use Rattle.lent_check.specs.Valid.{CheckLent}
+use Rattle.gridder_answer.specs.GateLaws.{block-facts}
 use Rattle.gridder_answer.specs.Answer.{answerLength, says, saying, Reply, reply}
 use Rattle.gridder_calls.specs.CallLaws.{lent-valid}
 use Rattle.gridder_state.specs.State.{holdsFunnel, tableIn, countsIn}
@@ -33,21 +30,6 @@ module _ (done : Checked) (n : ℕ) (a : List ℕ) where
   pub checked-says : (x : Checked) → done ≡ x → n ≡ reportOf x .number → a ≡ says (checkedFields x)
       → reply n a ≡ reply (reportOf done .number) (says (checkedFields done))
   checked-says x e p q = rw (e, p, q)
-
--- ---- the gate
-
-module _ (table : FunnelTable) (counts : List ℕ) (words flags marks order answer : ℕ) (r : Gated) (is : r ≡ checkGate table counts words flags marks order) where
-  pub check-call-refused : (g : Gate) → r ≡ Refused g → Refused g ≡ checkCallGate table counts words flags marks order answer
-  unfolding checkCallGate
-  check-call-refused g h = let f : checkGate table counts words flags marks order ≡ Refused g = sym is ∙ h in sym (rw f)
-
-  pub check-call-other : r ≡ Passed → (answer ≡ answerLength → ⊥) → Refused gate.State ≡ checkCallGate table counts words flags marks order answer
-  unfolding checkCallGate
-  check-call-other h n = let f : checkGate table counts words flags marks order ≡ Passed = sym is ∙ h in sym (rw (f, ne-eqb _ _ n))
-
-  pub check-call-passed : r ≡ Passed → answer ≡ answerLength → Passed ≡ checkCallGate table counts words flags marks order answer
-  unfolding checkCallGate
-  check-call-passed h e = let f : checkGate table counts words flags marks order ≡ Passed = sym is ∙ h in sym (rw (f, eq-eqb _ _ e))
 
 -- what it says that a check's gate passed
 module _ (table : FunnelTable) (counts words flags marks order : List ℕ) where
@@ -73,13 +55,8 @@ module _ (table : FunnelTable) (counts words flags marks order : List ℕ) where
       → CheckReady answer
   unfolding checkCallGate
   check-ready answer h =
-      go (checkGate table counts (wordCount (length words)) (length flags) (length marks) (wordCount (length order))) (eqb (length answer) answerLength) refl refl h
-    where
-      go : (a : Gated) (b : Bool) → checkGate table counts (wordCount (length words)) (length flags) (length marks) (wordCount (length order)) ≡ a
-          → eqb (length answer) answerLength ≡ b → gateThen a (refuseIf (not b) gate.State Passed) ≡ Passed → CheckReady answer
-      go (Refused g) b p q h = let z : _≡_ {A = ℕ} 0 1 = cc in absurd (omega arith)
-      go Passed false p q h = let z : _≡_ {A = ℕ} 0 1 = cc in absurd (omega arith)
-      go Passed true p q h = record { lent = check-lent p; room = eqb-true _ _ q }
+      let f = block-facts _ _ _ h in
+      record { lent = check-lent (f .0); room = f .1 }
 
 -- ---- the call on a block that holds a state
 

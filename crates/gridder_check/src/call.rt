@@ -17,11 +17,11 @@ use gridder_answer::answer::SLOT;
 use gridder_answer::answer::say_both;
 use gridder_answer::answer::say_gate;
 use gridder_answer::answer::say_number;
+use gridder_answer::gate::block_gate;
 use gridder_state::state::read_counts;
 use gridder_state::state::table_in;
 use lent::word::word_count;
 use lent_check::check::audit;
-use refusal::Gate;
 use refusal::Name;
 use refusal::number;
 
@@ -61,15 +61,11 @@ fn check_call_gate(
 ) -> Gated
     ensures { λ r. ⌜ r ≡ checkCallGate table (now (counts .entry)) words flags marks order answer ⌝ }
 {
-    match check_gate(table, counts, words, flags, marks, order) {
-        Gated::Refused(g) => Gated::Refused(g),
-        Gated::Passed => {
-            if answer != ANSWER_LENGTH {
-                return Gated::Refused(Gate::State);
-            }
-            Gated::Passed
-        }
-    }
+    block_gate(
+        check_gate(table, counts, words, flags, marks, order),
+        answer,
+        ANSWER_LENGTH,
+    )
 }
 
 // What a check found.

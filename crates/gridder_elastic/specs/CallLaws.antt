@@ -1,56 +1,38 @@
 -- Laws of the exported calls on elastic tables, by what their gate said. Assumes nothing.
-use mathlib.Core.Bool.{Bool, true, false}
+use mathlib.Core.Bool.{true, false}
 use mathlib.Core.List.{List, []}
 use mathlib.Core.Path.{_≡_, refl, ap, sym, _∙_}
-use Prim.Native.Nat.{ℕ, _+_, _*_, _≤_, _<_}
+use Prim.Native.Nat.{ℕ, _*_}
 use native.Mathlib.Omega.{arith}
-use lib.Dec.{eqb}
-use lib.ListN.{length, replicate}
-use borrow.Author.Tests.{eq-eqb, ne-eqb, eqb-true}
+use lib.ListN.{length}
 use Rattle.refusal.specs.Table.{numberOf, nameOf}
 use Rattle.refusal.specs.declared.Gate.{Gate}
-use Rattle.refusal.specs.declared.Gate.the-variants as gate
 use Rattle.refusal.specs.declared.Name.the-variants as name
 use Rattle.geometry.specs.declared.config.Gated.{Gated}
 use Rattle.geometry.specs.declared.config.Gated.the-variants.{Passed, Refused}
-use Rattle.elastic_steps.specs.Insert.{Done, done, placeBy, chooseOf, insertOf, insertReport}
+use Rattle.elastic_steps.specs.Insert.{done, placeBy, chooseOf, insertOf, insertReport}
 use Rattle.elastic_steps.specs.InsertLaws.{insert-place}
 use Rattle.probe.specs.Word.{elasticKeyOf}
 use Rattle.elastic_query.specs.Query.{positionsOf, queryOf, queryReport}
 use Rattle.elastic_query.specs.QueryLaws.{query-walk}
 use Rattle.elastic.specs.Reading.{readingOf, holdsAt}
-use Rattle.elastic.specs.State.{Valid, demand, gateOf, openGate, freshOf}
-use Rattle.elastic.specs.StateLaws.{demand-refused, demand-passed, demand-failed, demand-facts, gate-valid}
+use Rattle.elastic.specs.State.{gateOf}
+use Rattle.elastic.specs.StateLaws.{gate-valid}
 use Rattle.elastic_steps.specs.declared.answer.Insertion.{Insertion}
 use Rattle.elastic_steps.specs.declared.answer.InsertRefusal.{InsertRefusal}
 use Rattle.elastic_steps.specs.declared.answer.InsertAnswer.{InsertAnswer}
 use Rattle.elastic_steps.specs.declared.answer.InsertAnswer.the-variants as inserting
 use Rattle.elastic_query.specs.declared.query.QueryAnswer.{QueryAnswer}
-use Rattle.elastic.specs.declared.state.Limits.{Limits}
 use Rattle.elastic.specs.declared.state.State.{State}
 use Rattle.lent.specs.Lent.{wordsOf, wordCount}
 use Rattle.lent.specs.LentLaws.{length-whole, count-some}
+use Rattle.gridder_answer.specs.GateLaws.{block-facts}
 use Rattle.gridder_answer.specs.Answer.{answerLength, says, saying, Reply, reply}
 use Rattle.gridder_calls.specs.Calls.{left}
 use Rattle.gridder_elastic.specs.Calls.{callGate, stateGate, queryReply, queryCall, countedIn, insertLeft, insertCall}
 use Rattle.gridder_elastic_answer.specs.Say.{insertFields, queryFields}
-use Rattle.gridder_elastic_state.specs.State.{holdsElastic, stateIn, countsIn, elasticBlock, withCountsIn}
+use Rattle.gridder_elastic_state.specs.State.{holdsElastic, stateIn, countsIn, withCountsIn}
 use Rattle.lent_elastic.specs.Valid.{ValidLent}
-
--- ---- the gate
-
-module _ (st : State) (counts : List ℕ) (words flags answer : ℕ) (r : Gated) (is : r ≡ gateOf st counts words flags) where
-  pub call-refused : (g : Gate) → r ≡ Refused g → Refused g ≡ callGate st counts words flags answer
-  unfolding callGate
-  call-refused g h = demand-refused _ _ _ _ (sym is ∙ h)
-
-  pub call-other : r ≡ Passed → (answer ≡ answerLength → ⊥) → Refused gate.State ≡ callGate st counts words flags answer
-  unfolding callGate
-  call-other h n = demand-failed _ _ _ (sym is ∙ h) (ne-eqb _ _ n)
-
-  pub call-passed : r ≡ Passed → answer ≡ answerLength → Passed ≡ callGate st counts words flags answer
-  unfolding callGate
-  call-passed h e = demand-passed _ _ _ (sym is ∙ h) (eq-eqb _ _ e)
 
 -- what it says that a call's gate passed
 pub record Ready (st : State) (counts words flags answer : List ℕ) : Type 0 where
@@ -61,7 +43,7 @@ pub record Ready (st : State) (counts words flags answer : List ℕ) : Type 0 wh
 ready : (st : State) (counts words flags answer : List ℕ) → callGate st counts (wordCount (length words)) (length flags) (length answer) ≡ Passed → Ready st counts words flags answer
 unfolding callGate
 ready st counts words flags answer h =
-    let f = demand-facts (gateOf st counts (wordCount (length words)) (length flags)) (eqb (length answer) answerLength) gate.State h in
+    let f = block-facts _ _ _ h in
     let v = gate-valid st counts (wordCount (length words)) (length flags) (f .0) in
     let two = v .config .least in
     let size = v .flags-size in
@@ -71,7 +53,7 @@ ready st counts words flags answer h =
     record {
       lent = record { valid = rw e at v; whole = omega arith };
       passed = rw e at (f .0);
-      room = eqb-true _ _ (f .1);
+      room = f .1;
     }
 
 -- the count of a block, by the answer

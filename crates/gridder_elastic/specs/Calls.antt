@@ -2,23 +2,22 @@
 use mathlib.Core.List.{List, []}
 use mathlib.Core.Path.{_≡_}
 use Prim.Native.Nat.{ℕ}
-use lib.Dec.{eqb}
 use lib.ListN.{length, replicate}
 use Rattle.refusal.specs.Table.{numberOf, nameOf}
-use Rattle.refusal.specs.declared.Gate.the-variants as gate
 use Rattle.refusal.specs.declared.Name.the-variants as name
 use Rattle.words.specs.Pick.{pick}
 use Rattle.geometry.specs.declared.config.Gated.{Gated}
 use Rattle.geometry.specs.declared.config.Gated.the-variants.{Passed, Refused}
 use Rattle.elastic_steps.specs.Insert.{Done, insertOf, insertReport}
 use Rattle.elastic_query.specs.Query.{queryOf, queryReport}
-use Rattle.elastic.specs.State.{demand, gateOf, openGate, freshOf}
+use Rattle.elastic.specs.State.{gateOf, openGate, freshOf}
 use Rattle.elastic_steps.specs.declared.answer.InsertAnswer.{InsertAnswer}
 use Rattle.elastic_steps.specs.declared.answer.InsertAnswer.the-variants as inserting
 use Rattle.elastic_query.specs.declared.query.QueryAnswer.{QueryAnswer}
 use Rattle.elastic.specs.declared.state.Limits.{Limits}
 use Rattle.elastic.specs.declared.state.State.{State}
 use Rattle.lent.specs.Lent.{wordsOf, wordCount}
+use Rattle.gridder_answer.specs.Gate.{blockGate}
 use Rattle.gridder_answer.specs.Answer.{answerLength, says, saying, Reply, reply}
 use Rattle.gridder_calls.specs.Calls.{Left, left}
 use Rattle.gridder_open.specs.Open.{openSaying}
@@ -30,7 +29,7 @@ use Rattle.gridder_elastic_state.specs.State.{holdsElastic, stateIn, countsIn, 
 
 -- the base's tests of a state, by the number of words and the lengths of flags and answer block
 unfoldable pub callGate : State → List ℕ → (words flags answer : ℕ) → Gated
-callGate st counts words flags answer = demand (gateOf st counts words flags) (eqb answer answerLength) gate.State
+callGate st counts words flags answer = blockGate (gateOf st counts words flags) answer answerLength
 
 -- the same for a state in a block, with words lent as bytes
 abbrev pub stateGate : (state words flags answer : List ℕ) → Gated
@@ -73,7 +72,7 @@ insertCall state words flags identity answer =
 -- the tests of an opening, by the number of words and the lengths of flags, state block and answer block
 unfoldable pub openBlocksGate : (n e : ℕ) → Limits → (words flags state answer : ℕ) → Gated
 openBlocksGate n e limits words flags state answer =
-    demand (demand (openGate n e limits words flags) (eqb state stateLength) gate.State) (eqb answer answerLength) gate.State
+    blockGate (blockGate (openGate n e limits words flags) state stateLength) answer answerLength
 
 -- "Opening zeroes both; that is a fresh table"; a refusal leaves state and buffers as on entry
 unfoldable pub openLeft : Gated → (n e seed : ℕ) → Limits → (state words flags answer : List ℕ) → Left

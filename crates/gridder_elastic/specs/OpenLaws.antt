@@ -1,54 +1,31 @@
 -- Laws of the exported opening of an elastic table. Assumes nothing.
-use mathlib.Core.Bool.{Bool, true, false}
 use mathlib.Core.List.{List, []}
-use mathlib.Core.Path.{_≡_, refl, ap, sym, _∙_}
-use Prim.Native.Nat.{ℕ, _*_, _≤_, _<_}
+use mathlib.Core.Path.{_≡_, ap, sym, _∙_}
+use Prim.Native.Nat.{ℕ, _*_, _≤_}
 use native.Mathlib.Omega.{arith}
 use lib.Dec.{eqb}
 use lib.ListN.{length, replicate}
-use borrow.Author.Tests.{eq-eqb, ne-eqb, eqb-true}
+use borrow.Author.Tests.{eqb-true}
 use Rattle.refusal.specs.Table.{numberOf, nameOf}
 use Rattle.refusal.specs.declared.Gate.{Gate}
-use Rattle.refusal.specs.declared.Gate.the-variants as gate
-use Rattle.geometry.specs.Config.{Configured, maximum}
+use Rattle.geometry.specs.Config.{maximum}
 use Rattle.geometry.specs.ConfigLaws.{config-gate-facts}
 use Rattle.geometry.specs.Elastic.{levelsOf}
 use Rattle.geometry.specs.declared.config.Gated.{Gated}
 use Rattle.geometry.specs.declared.config.Gated.the-variants.{Passed, Refused}
-use Rattle.elastic.specs.State.{demand, settingGate, openGate, freshOf}
-use Rattle.elastic.specs.StateLaws.{both-yes, demand-refused, demand-passed, demand-failed, demand-facts}
+use Rattle.elastic.specs.State.{settingGate, openGate, freshOf}
+use Rattle.elastic.specs.StateLaws.{both-yes, demand-facts}
 use Rattle.elastic.specs.declared.state.Limits.{Limits}
 use Rattle.elastic.specs.declared.state.State.{State}
 use Rattle.lent.specs.Lent.{wordsOf, wordCount}
 use Rattle.lent.specs.LentLaws.{count-some, words-zeros}
+use Rattle.gridder_answer.specs.GateLaws.{block-facts}
 use Rattle.gridder_answer.specs.Answer.{answerLength, says, Reply, reply}
 use Rattle.gridder_answer.specs.AnswerLaws.{says-none}
 use Rattle.gridder_calls.specs.Calls.{left}
 use Rattle.gridder_open.specs.Open.{openSaying}
 use Rattle.gridder_state.specs.State.{stateLength}
 use Rattle.gridder_elastic.specs.Calls.{openBlocksGate, openLeft, openCall, Fresh}
-use Rattle.gridder_elastic_state.specs.State.{elasticBlock}
-
--- ---- the gate, test by test
-
-module _ (n e : ℕ) (limits : Limits) (words flags state answer : ℕ) (r : Gated) (is : r ≡ openGate n e limits words flags) where
-  pub blocks-refused : (g : Gate) → r ≡ Refused g → Refused g ≡ openBlocksGate n e limits words flags state answer
-  unfolding openBlocksGate
-  blocks-refused g h = demand-refused _ _ _ _ (sym (demand-refused _ _ _ _ (sym is ∙ h)))
-
-  module _ (h : r ≡ Passed) where
-    pub blocks-state : (state ≡ stateLength → ⊥) → Refused gate.State ≡ openBlocksGate n e limits words flags state answer
-    unfolding openBlocksGate
-    blocks-state s = demand-refused _ _ _ _ (sym (demand-failed _ _ _ (sym is ∙ h) (ne-eqb _ _ s)))
-
-    module _ (s : state ≡ stateLength) where
-      pub blocks-answer : (answer ≡ answerLength → ⊥) → Refused gate.State ≡ openBlocksGate n e limits words flags state answer
-      unfolding openBlocksGate
-      blocks-answer a = demand-failed _ _ _ (sym (demand-passed _ _ _ (sym is ∙ h) (eq-eqb _ _ s))) (ne-eqb _ _ a)
-
-      pub blocks-passed : answer ≡ answerLength → Passed ≡ openBlocksGate n e limits words flags state answer
-      unfolding openBlocksGate
-      blocks-passed a = demand-passed _ _ _ (sym (demand-passed _ _ _ (sym is ∙ h) (eq-eqb _ _ s))) (eq-eqb _ _ a)
 
 -- what it says that an opening's gate passed
 pub record Room (n words flags state answer : ℕ) : Type 0 where
@@ -61,8 +38,8 @@ pub record Room (n words flags state answer : ℕ) : Type 0 where
 pub room : (n e : ℕ) (limits : Limits) (words flags state answer : ℕ) → openBlocksGate n e limits words flags state answer ≡ Passed → Room n words flags state answer
 unfolding openBlocksGate openGate settingGate
 room n e limits words flags state answer h =
-    let a = demand-facts _ _ _ h in
-    let b = demand-facts _ _ _ (a .0) in
+    let a = block-facts _ _ _ h in
+    let b = block-facts _ _ _ (a .0) in
     let d = demand-facts _ _ _ (b .0) in
     let f = demand-facts _ _ _ (d .0) in
     let size = both-yes (eqb words n) (eqb flags n) (d .1) in
@@ -70,8 +47,8 @@ room n e limits words flags state answer h =
       least = config-gate-facts n e (f .0) .least;
       words-right = eqb-true words n (size .0);
       flags-right = eqb-true flags n (size .1);
-      state-right = eqb-true _ _ (b .1);
-      answer-right = eqb-true _ _ (a .1);
+      state-right = b .1;
+      answer-right = a .1;
     }
 
 -- ---- the opening by its gate

@@ -19,6 +19,7 @@ use geometry::config::max_insertions;
 use geometry::elastic::ElasticPlan;
 use gridder_answer::answer::ANSWER_LENGTH;
 use gridder_answer::answer::say_gate;
+use gridder_answer::gate::block_gate;
 use gridder_elastic_answer::say::say_insert;
 use gridder_elastic_answer::say::say_query;
 use gridder_elastic_state::state::read_counts;
@@ -29,7 +30,6 @@ use gridder_state::state::STATE_LENGTH;
 use lent::word::word_count;
 use lent_elastic::insert::place;
 use lent_elastic::query::look;
-use refusal::Gate;
 use words::clear::clear_bytes;
 use words::power::ceil_log2;
 
@@ -51,15 +51,7 @@ pub fn query_in(state: &[u8], words: &[u8], flags: &[u8], identity: u64, answer:
 fn call_gate(st: State, counts: &[u64; 32], words: usize, flags: usize, answer: usize) -> Gated
     ensures { λ r. ⌜ r ≡ callGate st (now (counts .entry)) words flags answer ⌝ }
 {
-    match state_gate(st, counts, words, flags) {
-        Gated::Refused(g) => Gated::Refused(g),
-        Gated::Passed => {
-            if answer != ANSWER_LENGTH {
-                return Gated::Refused(Gate::State);
-            }
-            Gated::Passed
-        }
-    }
+    block_gate(state_gate(st, counts, words, flags), answer, ANSWER_LENGTH)
 }
 
 pub fn insert_in(
@@ -115,18 +107,8 @@ pub fn open_blocks_gate(
 ) -> Gated
     ensures { λ r. ⌜ r ≡ openBlocksGate n e limits words flags state answer ⌝ }
 {
-    match open_gate(n, e, limits, words, flags) {
-        Gated::Refused(g) => Gated::Refused(g),
-        Gated::Passed => {
-            if state != STATE_LENGTH {
-                return Gated::Refused(Gate::State);
-            }
-            if answer != ANSWER_LENGTH {
-                return Gated::Refused(Gate::State);
-            }
-            Gated::Passed
-        }
-    }
+    let tested = block_gate(open_gate(n, e, limits, words, flags), state, STATE_LENGTH);
+    block_gate(tested, answer, ANSWER_LENGTH)
 }
 
 // The state of a fresh table.

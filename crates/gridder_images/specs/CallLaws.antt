@@ -1,20 +1,15 @@
 -- Laws of the exported calls on images, by what their gate said. Assumes nothing.
-use mathlib.Core.Bool.{Bool, true, false, not}
+use mathlib.Core.Bool.{true, false}
 use mathlib.Core.List.{List, []}
-use mathlib.Core.Path.{_≡_, refl, ap, sym, _∙_}
+use mathlib.Core.Path.{_≡_, ap, sym, _∙_}
 use Prim.Native.Nat.{ℕ, _*_, _^_, _≤_}
 use native.Mathlib.Omega.{arith}
-use lib.Dec.{eqb}
 use lib.ListN.{length, replicate, length-replicate}
-use borrow.Author.Tests.{eq-eqb, ne-eqb, eqb-true}
 use Rattle.refusal.specs.Table.{numberOf, nameOf}
 use Rattle.refusal.specs.declared.Gate.{Gate}
-use Rattle.refusal.specs.declared.Gate.the-variants as gate
 use Rattle.refusal.specs.declared.Name.the-variants as name
-use Rattle.geometry.specs.Config.{refuseIf}
 use Rattle.geometry.specs.declared.config.Gated.{Gated}
 use Rattle.geometry.specs.declared.config.Gated.the-variants.{Passed, Refused}
-use Rattle.funnel.specs.Calls.{gateThen}
 use Rattle.funnel.specs.declared.table.FunnelTable.{FunnelTable}
 use Rattle.image_calls.specs.CallLaws.{Writable, gate-writable}
 use Rattle.image_calls.specs.Calls.{writeGate, writtenReport}
@@ -25,6 +20,7 @@ use Rattle.image_calls.specs.declared.loader.Filled.the-variants as filled
 use Rattle.image_writer.specs.declared.writer.Written.{Written}
 use Rattle.lent.specs.Lent.{wordsOf, wordCount}
 use Rattle.lent.specs.LentLaws.{count-some}
+use Rattle.gridder_answer.specs.GateLaws.{block-facts}
 use Rattle.gridder_answer.specs.Answer.{answerLength, says, saying, Reply, reply}
 use Rattle.gridder_calls.specs.Calls.{callGate, stateGate, left}
 use Rattle.gridder_state.specs.State.{holdsFunnel, tableIn, countsIn, withCountIn}
@@ -82,19 +78,6 @@ load-unheld state words flags image answer number h e = sym (rw (h, e))
 
 -- ---- the writer's gate
 
-module _ (table : FunnelTable) (counts : List ℕ) (words flags label answer : ℕ) (r : Gated) (is : r ≡ writeGate table counts words flags label) where
-  pub write-gate-refused : (g : Gate) → r ≡ Refused g → Refused g ≡ writeCallGate table counts words flags label answer
-  unfolding writeCallGate
-  write-gate-refused g h = let f : writeGate table counts words flags label ≡ Refused g = sym is ∙ h in sym (rw f)
-
-  pub write-gate-other : r ≡ Passed → (answer ≡ answerLength → ⊥) → Refused gate.State ≡ writeCallGate table counts words flags label answer
-  unfolding writeCallGate
-  write-gate-other h n = let f : writeGate table counts words flags label ≡ Passed = sym is ∙ h in sym (rw (f, ne-eqb _ _ n))
-
-  pub write-gate-passed : r ≡ Passed → answer ≡ answerLength → Passed ≡ writeCallGate table counts words flags label answer
-  unfolding writeCallGate
-  write-gate-passed h e = let f : writeGate table counts words flags label ≡ Passed = sym is ∙ h in sym (rw (f, eq-eqb _ _ e))
-
 -- what it says that the writer's gate passed
 pub record WriteReady (words flags label answer : List ℕ) : Type 0 where
   pub whole : length words ≡ length flags * 8
@@ -121,14 +104,9 @@ module _ (state words flags label image answer : List ℕ) (table : FunnelTable)
   pub write-ready : g ≡ Passed → WriteReady words flags label answer
   unfolding writeCallGate
   write-ready p =
-      go (writeGate table counts (wordCount (length words)) (length flags) (length label)) (eqb (length answer) answerLength) refl refl
-      (let h : writeCallGate table counts entries (length flags) (length label) (length answer) ≡ Passed = sym is ∙ p in rw w at h)
-    where
-      go : (a : Gated) (b : Bool) → writeGate table counts (wordCount (length words)) (length flags) (length label) ≡ a → eqb (length answer) answerLength ≡ b
-          → gateThen a (refuseIf (not b) gate.State Passed) ≡ Passed → WriteReady words flags label answer
-      go (Refused x) b p q h = let z : _≡_ {A = ℕ} 0 1 = cc in absurd (omega arith)
-      go Passed false p q h = let z : _≡_ {A = ℕ} 0 1 = cc in absurd (omega arith)
-      go Passed true p q h = writable-ready table counts words flags label answer p (eqb-true _ _ q)
+      let h : writeCallGate table counts entries (length flags) (length label) (length answer) ≡ Passed = sym is ∙ p in
+      let f = block-facts _ _ _ (rw w at h) in
+      writable-ready table counts words flags label answer (f .0) (f .1)
 
   -- ---- writing
   write-gate-of : g ≡ writeStateGate state words flags label answer

@@ -1,23 +1,19 @@
 -- The exported calls on images: what each answers and leaves. Assumes nothing.
-use mathlib.Core.Bool.{not}
 use mathlib.Core.List.{List, []}
 use Prim.Native.Nat.{ℕ}
-use lib.Dec.{eqb}
 use lib.ListN.{length}
 use Rattle.refusal.specs.Table.{numberOf, nameOf}
-use Rattle.refusal.specs.declared.Gate.the-variants as gate
 use Rattle.refusal.specs.declared.Name.the-variants as name
 use Rattle.words.specs.Pick.{pick}
-use Rattle.geometry.specs.Config.{refuseIf}
 use Rattle.geometry.specs.declared.config.Gated.{Gated}
 use Rattle.geometry.specs.declared.config.Gated.the-variants.{Passed, Refused}
-use Rattle.funnel.specs.Calls.{gateThen}
 use Rattle.funnel.specs.declared.table.FunnelTable.{FunnelTable}
 use Rattle.image_calls.specs.Calls.{writeGate, loadedOf, loadedReport, writtenReport}
 use Rattle.image_calls.specs.Loading.{Loads, loadOf}
 use Rattle.image_calls.specs.declared.loader.Filled.{Filled}
 use Rattle.image_calls.specs.declared.loader.Filled.the-variants as filled
 use Rattle.lent.specs.Lent.{wordsOf, wordCount}
+use Rattle.gridder_answer.specs.Gate.{blockGate}
 use Rattle.gridder_answer.specs.Answer.{answerLength, says, saying}
 use Rattle.gridder_calls.specs.Calls.{stateGate, Left, left}
 use Rattle.gridder_state.specs.State.{holdsFunnel, tableIn, countsIn, withCountIn}
@@ -59,7 +55,7 @@ sent number answer image = record { number = number; answer = answer; image = im
 -- the writer's tests 1 to 7, by the number of words and the lengths of flags, label and answer block
 unfoldable pub writeCallGate : FunnelTable → List ℕ → (words flags label answer : ℕ) → Gated
 writeCallGate table counts words flags label answer =
-    gateThen (writeGate table counts words flags label) (refuseIf (not (eqb answer answerLength)) gate.State Passed)
+    blockGate (writeGate table counts words flags label) answer answerLength
 
 -- the same for a table in a state block, with words lent as bytes
 abbrev pub writeStateGate : (state words flags label answer : List ℕ) → Gated

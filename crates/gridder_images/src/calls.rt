@@ -12,6 +12,7 @@ use funnel::table::FunnelTable;
 use geometry::config::Gated;
 use gridder_answer::answer::ANSWER_LENGTH;
 use gridder_answer::answer::say_gate;
+use gridder_answer::gate::block_gate;
 use gridder_calls::funnels::call_gate;
 use gridder_state::state::read_counts;
 use gridder_state::state::table_in;
@@ -21,7 +22,6 @@ use image_calls::loader::Filled;
 use lent::word::word_count;
 use lent_images::load::load;
 use lent_images::write::write;
-use refusal::Gate;
 
 pub fn load_in(
     state: &mut [u8],
@@ -106,13 +106,9 @@ fn write_call_gate(
 ) -> Gated
     ensures { λ r. ⌜ r ≡ writeCallGate table (now (counts .entry)) words flags label answer ⌝ }
 {
-    match write_gate(table, counts, words, flags, label) {
-        Gated::Refused(g) => Gated::Refused(g),
-        Gated::Passed => {
-            if answer != ANSWER_LENGTH {
-                return Gated::Refused(Gate::State);
-            }
-            Gated::Passed
-        }
-    }
+    block_gate(
+        write_gate(table, counts, words, flags, label),
+        answer,
+        ANSWER_LENGTH,
+    )
 }

@@ -1,21 +1,19 @@
 -- The exported opening of a funnel table: what it answers and leaves. Assumes nothing.
-use mathlib.Core.Bool.{not}
 use mathlib.Core.List.{List, []}
 use mathlib.Core.Path.{_≡_}
 use Prim.Native.Nat.{ℕ, _*_}
 use lib.Dec.{eqb}
 use lib.ListN.{length, replicate}
 use Rattle.refusal.specs.Table.{numberOf, nameOf}
-use Rattle.refusal.specs.declared.Gate.the-variants as gate
 use Rattle.refusal.specs.declared.Name.the-variants as name
 use Rattle.words.specs.Pick.{pick}
-use Rattle.geometry.specs.Config.{refuseIf}
 use Rattle.geometry.specs.Funnel.{IsPlan}
 use Rattle.geometry.specs.declared.config.Gated.{Gated}
 use Rattle.geometry.specs.declared.config.Gated.the-variants.{Passed, Refused}
 use Rattle.geometry.specs.declared.funnel.FunnelPlan.{FunnelPlan}
-use Rattle.funnel.specs.Calls.{gateThen, openGate}
+use Rattle.funnel.specs.Calls.{openGate}
 use Rattle.funnel.specs.declared.table.FunnelTable.{FunnelTable}
+use Rattle.gridder_answer.specs.Gate.{blockGate}
 use Rattle.gridder_answer.specs.Answer.{answerLength, says, saying}
 use Rattle.lent.specs.Lent.{wordCount}
 use Rattle.gridder_state.specs.State.{stateLength, funnelBlock}
@@ -23,8 +21,7 @@ use Rattle.gridder_state.specs.State.{stateLength, funnelBlock}
 -- the tests of an opening, by the number of words and the lengths of flags, state block and answer block
 unfoldable pub openBlocksGate : (n e cap words flags state answer : ℕ) → Gated
 openBlocksGate n e cap words flags state answer =
-    gateThen (openGate n e cap words flags)
-    (refuseIf (not (eqb state stateLength)) gate.State (refuseIf (not (eqb answer answerLength)) gate.State Passed))
+    blockGate (blockGate (openGate n e cap words flags) state stateLength) answer answerLength
 
 -- what a refused opening leaves of the answer block: where a state block of another length is STATE, it stays as it was
 unfoldable pub openSaying : (number state : ℕ) → List ℕ → List ℕ

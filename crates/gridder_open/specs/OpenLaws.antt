@@ -1,18 +1,14 @@
 -- Laws of the exported opening. Assumes nothing.
-use mathlib.Core.Bool.{Bool, true, false, not}
 use mathlib.Core.List.{List, []}
 use mathlib.Core.Path.{_≡_, refl, ap, sym, _∙_}
-use Prim.Native.Nat.{ℕ, _+_, _*_, _≤_, _<_}
+use Prim.Native.Nat.{ℕ, _*_}
 use native.Mathlib.Omega.{arith}
-use lib.Dec.{eqb}
 use lib.ListN.{length, replicate}
-use borrow.Author.Tests.{eq-eqb, ne-eqb, eqb-true}
+use borrow.Author.Tests.{eq-eqb, ne-eqb}
 use Rattle.refusal.specs.Table.{numberOf, nameOf}
 use Rattle.refusal.specs.declared.Gate.{Gate}
-use Rattle.refusal.specs.declared.Gate.the-variants as gate
 use Rattle.refusal.specs.declared.Name.{Name}
 use Rattle.refusal.specs.declared.Name.the-variants as name
-use Rattle.geometry.specs.Config.{refuseIf}
 use Rattle.geometry.specs.Funnel.{IsPlan}
 use Rattle.geometry.specs.FunnelGate.{funnelGate, Planned}
 use Rattle.geometry.specs.FunnelLaws.{plan-unique}
@@ -22,37 +18,13 @@ use Rattle.geometry.specs.declared.funnel.FunnelPlan.{FunnelPlan}
 use Rattle.geometry.specs.declared.funnel.FunnelPlanned.{FunnelPlanned}
 use Rattle.geometry.specs.declared.funnel.FunnelPlanned.the-variants as planned
 use Rattle.funnel.specs.CallLaws.{open-facts}
-use Rattle.funnel.specs.Calls.{gateThen, openGate}
-use Rattle.gridder_answer.specs.Answer.{answerLength, saying, says, Reply, reply}
+use Rattle.gridder_answer.specs.GateLaws.{block-facts}
+use Rattle.gridder_answer.specs.Answer.{answerLength, saying, Reply, reply}
 use Rattle.gridder_answer.specs.AnswerLaws.{says-none}
 use Rattle.gridder_open.specs.Open.{openBlocksGate, openSaying, fresh, OpensBy, OpensLent}
 use Rattle.lent.specs.Lent.{wordCount}
 use Rattle.lent.specs.LentLaws.{count-some}
 use Rattle.gridder_state.specs.State.{stateLength, funnelBlock}
-
--- ---- the gate, test by test
-
-module _ (n e cap words flags state answer : ℕ) (r : Gated) (is : r ≡ openGate n e cap words flags) where
-  pub blocks-refused : (g : Gate) → r ≡ Refused g → Refused g ≡ openBlocksGate n e cap words flags state answer
-  unfolding openBlocksGate
-  blocks-refused g h = let f : openGate n e cap words flags ≡ Refused g = sym is ∙ h in sym (rw f)
-
-  module _ (h : r ≡ Passed) where
-    passes : openGate n e cap words flags ≡ Passed
-    passes = sym is ∙ h
-
-    pub blocks-state : (state ≡ stateLength → ⊥) → Refused gate.State ≡ openBlocksGate n e cap words flags state answer
-    unfolding openBlocksGate
-    blocks-state s = sym (rw (passes, ne-eqb _ _ s))
-
-    module _ (s : state ≡ stateLength) where
-      pub blocks-answer : (answer ≡ answerLength → ⊥) → Refused gate.State ≡ openBlocksGate n e cap words flags state answer
-      unfolding openBlocksGate
-      blocks-answer a = sym (rw (passes, eq-eqb _ _ s, ne-eqb _ _ a))
-
-      pub blocks-passed : answer ≡ answerLength → Passed ≡ openBlocksGate n e cap words flags state answer
-      unfolding openBlocksGate
-      blocks-passed a = sym (rw (passes, eq-eqb _ _ s, eq-eqb _ _ a))
 
 -- what it says that an opening's gate passed
 pub record Room (n e words flags state answer : ℕ) : Type 0 where
@@ -64,19 +36,11 @@ pub record Room (n e words flags state answer : ℕ) : Type 0 where
 
 pub room : (n e cap words flags state answer : ℕ) → openBlocksGate n e cap words flags state answer ≡ Passed → Room n e words flags state answer
 unfolding openBlocksGate
-room n e cap words flags state answer h = go (openGate n e cap words flags) (eqb state stateLength) (eqb answer answerLength) refl refl refl h
-  where
-    no : {g : Gate} → Refused g ≡ Passed → ⊥
-    no k = let z : _≡_ {A = ℕ} 0 1 = cc in omega arith
-
-    go : (a : Gated) (s t : Bool) → openGate n e cap words flags ≡ a → eqb state stateLength ≡ s → eqb answer answerLength ≡ t
-        → gateThen a (refuseIf (not s) gate.State (refuseIf (not t) gate.State Passed)) ≡ Passed → Room n e words flags state answer
-    go (Refused g) s t p q r h = absurd (no h)
-    go Passed false t p q r h = absurd (no h)
-    go Passed true false p q r h = absurd (no h)
-    go Passed true true p q r h =
-        let f = open-facts n e cap words flags p in
-        record { layout = f .0; words-right = f .3; flags-right = f .4; state-right = eqb-true _ _ q; answer-right = eqb-true _ _ r }
+room n e cap words flags state answer h =
+    let a = block-facts _ _ _ h in
+    let b = block-facts _ _ _ (a .0) in
+    let f = open-facts n e cap words flags (b .0) in
+    record { layout = f .0; words-right = f .3; flags-right = f .4; state-right = b .1; answer-right = a .1 }
 
 -- ---- what a refused opening says
 

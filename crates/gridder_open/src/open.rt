@@ -13,6 +13,7 @@ use geometry::funnel::FunnelPlanned;
 use geometry_funnel::plan::funnel_plan;
 use gridder_answer::answer::ANSWER_LENGTH;
 use gridder_answer::answer::say_gate;
+use gridder_answer::gate::block_gate;
 use gridder_state::state::STATE_LENGTH;
 use gridder_state::state::write_table;
 use refusal::Gate;
@@ -33,18 +34,8 @@ pub fn open_blocks_gate(
 ) -> Gated
     ensures { λ r. ⌜ r ≡ openBlocksGate n e cap words flags state answer ⌝ }
 {
-    match open_gate(n, e, cap, words, flags) {
-        Gated::Refused(g) => Gated::Refused(g),
-        Gated::Passed => {
-            if state != STATE_LENGTH {
-                return Gated::Refused(Gate::State);
-            }
-            if answer != ANSWER_LENGTH {
-                return Gated::Refused(Gate::State);
-            }
-            Gated::Passed
-        }
-    }
+    let tested = block_gate(open_gate(n, e, cap, words, flags), state, STATE_LENGTH);
+    block_gate(tested, answer, ANSWER_LENGTH)
 }
 
 // What a refused opening says: nothing where a state block of another length is STATE.
