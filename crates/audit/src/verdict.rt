@@ -11,7 +11,7 @@ ghost use Rattle.funnel.specs.Valid.{Valid};
 ghost use Rattle.waiting.specs.Links.{space};
 use funnel::table::FunnelTable;
 use funnel::table::Search;
-use funnel_search::search::find_ordinary;
+use funnel_numbers::search::find_ordinary;
 use queue::keep::add;
 use waiting::chain::clear;
 

@@ -8,12 +8,12 @@ ghost use Rattle.audit.specs.ReadyLaws.{vacantAt};
 ghost use Rattle.funnel.specs.Search.{findOf};
 ghost use Rattle.funnel.specs.Stop.{StopsAt};
 ghost use Rattle.funnel.specs.Valid.{Valid};
-use funnel::scan::pass;
 use funnel::table::FunnelTable;
 use funnel::table::Search;
 use funnel::table::Stop;
 use funnel::table::slot_of;
-use funnel_search::search::find;
+use funnel_numbers::search::find;
+use funnel_numbers::search::pass;
 use funnel_search::search::first_bucket;
 use probe::word::funnel_key;
 

@@ -142,7 +142,10 @@ pub extern "C" fn bench_search_all(
     let table = table_of(state);
     match table_gate(table, counts, words.len() as u64, flags.len() as u64) {
         Gated::Refused(_) => 0,
-        Gated::Passed => sum_probes(table, counts, words, flags, identities),
+        Gated::Passed => {
+            let none: [u8; 0] = [];
+            sum_probes(table, counts, words, flags, identities, &none)
+        }
     }
 }
 
@@ -152,13 +155,14 @@ fn sum_probes(
     words: &[u64],
     flags: &[u8],
     identities: &[u64],
+    none: &[u8],
 ) -> u64
     requires { ⌜ Valid table (now counts) (now words) (now flags) ⌝ }
 {
     let mut sum = 0;
     let mut i = 0;
     while i < identities.len() {
-        let found = find(table, counts, words, flags, identities[i]);
+        let found = find(table, counts, words, flags, identities[i], none, false);
         sum = std::num::wrapping_add_u64(sum, probes_of(found));
         i += 1;
     }

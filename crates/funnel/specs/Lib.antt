@@ -24,3 +24,4 @@ pub mod StageLaws
 pub mod Stop
 pub mod StopLaws
 pub mod Valid
+pub mod ValidLent

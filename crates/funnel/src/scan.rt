@@ -6,9 +6,11 @@ ghost use lib.ListN.{length};
 ghost use Rattle.funnel.specs.Path.{slotOf, run, bucketFrom, pairsFrom};
 ghost use Rattle.funnel.specs.Search.{searchOf};
 ghost use Rattle.funnel.specs.Stop.{BucketStops, haltOf, Inside, Halts};
+ghost use Rattle.lent.specs.Lent.{wordsIn};
 use crate::table::Halt;
 use crate::table::Search;
 use crate::table::Stop;
+use lent::store::word;
 use words::place::GlobalSlot;
 use words::place::Place;
 
@@ -22,11 +24,13 @@ pub fn scan(
     from: u64,
     w: u64,
     probes: u64,
+    lent: &[u8],
+    bytes: bool,
 ) -> Search
-    requires { ⌜ (from + w ≤ length (now words)) × (from + w ≤ length (now flags)) × (probes + w < 2 ^ 64) × (w % 2 ≡ 0) ⌝ }
-    ensures { λ r. ⌜ r ≡ searchOf (now (words .entry)) (now (flags .entry)) identity (run (bucketFrom level bucket from 0 w)) probes ⌝ }
+    requires { ⌜ (from + w ≤ length (wordsIn bytes (now words) (now lent))) × (from + w ≤ length (now flags)) × (probes + w < 2 ^ 64) × (w % 2 ≡ 0) ⌝ }
+    ensures { λ r. ⌜ r ≡ searchOf (wordsIn bytes (now (words .entry)) (now (lent .entry))) (now (flags .entry)) identity (run (bucketFrom level bucket from 0 w)) probes ⌝ }
 {
-    let stop = halt(words, flags, identity, from, w);
+    let stop = halt(words, flags, identity, from, w, lent, bytes);
     halted(stop, level, bucket, from, w, probes)
 }
 
@@ -60,24 +64,32 @@ pub fn halted(halt: Halt, level: u64, bucket: u64, from: u64, w: u64, probes: u6
 
 // Where a bucket of w slots stops a search, for an even w: two slots a turn, no place and no count of probes. The loop holds an index and
 // no slot, so that it needs few registers.
-pub fn halt(words: &[u64], flags: &[u8], identity: u64, from: u64, w: u64) -> Halt
-    requires { ⌜ (from + w ≤ length (now words)) × (from + w ≤ length (now flags)) × (w % 2 ≡ 0) ⌝ }
-    ensures { λ r. ⌜ Halts (now (words .entry)) (now (flags .entry)) identity from w r ⌝ }
+pub fn halt(
+    words: &[u64],
+    flags: &[u8],
+    identity: u64,
+    from: u64,
+    w: u64,
+    lent: &[u8],
+    bytes: bool,
+) -> Halt
+    requires { ⌜ (from + w ≤ length (wordsIn bytes (now words) (now lent))) × (from + w ≤ length (now flags)) × (w % 2 ≡ 0) ⌝ }
+    ensures { λ r. ⌜ Halts (wordsIn bytes (now (words .entry)) (now (lent .entry))) (now (flags .entry)) identity from w r ⌝ }
 {
     let mut i = 0;
     while i < w {
-        let first = (from + i) as usize;
-        if flags[first] == 0 {
+        let first = from + i;
+        if flags[first as usize] == 0 {
             return Halt::Vacant { index: i };
         }
-        if words[first] == identity {
+        if word(bytes, words, lent, first) == identity {
             return Halt::Hit { index: i };
         }
-        let second = (from + i + 1) as usize;
-        if flags[second] == 0 {
+        let second = from + i + 1;
+        if flags[second as usize] == 0 {
             return Halt::Vacant { index: i + 1 };
         }
-        if words[second] == identity {
+        if word(bytes, words, lent, second) == identity {
             return Halt::Hit { index: i + 1 };
         }
         i += 2;
@@ -86,11 +98,19 @@ pub fn halt(words: &[u64], flags: &[u8], identity: u64, from: u64, w: u64) -> Ha
 }
 
 // The same by the slot.
-pub fn pass(words: &[u64], flags: &[u8], identity: u64, from: u64, w: u64) -> Stop
-    requires { ⌜ (from + w ≤ length (now words)) × (from + w ≤ length (now flags)) × (w % 2 ≡ 0) ⌝ }
-    ensures { λ r. ⌜ BucketStops (now (words .entry)) (now (flags .entry)) identity from w r ⌝ }
+pub fn pass(
+    words: &[u64],
+    flags: &[u8],
+    identity: u64,
+    from: u64,
+    w: u64,
+    lent: &[u8],
+    bytes: bool,
+) -> Stop
+    requires { ⌜ (from + w ≤ length (wordsIn bytes (now words) (now lent))) × (from + w ≤ length (now flags)) × (w % 2 ≡ 0) ⌝ }
+    ensures { λ r. ⌜ BucketStops (wordsIn bytes (now (words .entry)) (now (lent .entry))) (now (flags .entry)) identity from w r ⌝ }
 {
-    match halt(words, flags, identity, from, w) {
+    match halt(words, flags, identity, from, w, lent, bytes) {
         Halt::Hit { index } => Stop::Hit { slot: from + index },
         Halt::Vacant { index } => Stop::Vacant { slot: from + index },
         Halt::Nowhere => Stop::Nowhere,
@@ -105,9 +125,11 @@ pub fn read(
     place: Place,
     at: u64,
     probes: u64,
+    lent: &[u8],
+    bytes: bool,
 ) -> Search
-    requires { ⌜ (slotOf place ≡ at) × (at < length (now words)) × (at < length (now flags)) × (probes + 1 < 2 ^ 64) ⌝ }
-    ensures { λ r. ⌜ r ≡ searchOf (now (words .entry)) (now (flags .entry)) identity (run (place ∷ [])) probes ⌝ }
+    requires { ⌜ (slotOf place ≡ at) × (at < length (wordsIn bytes (now words) (now lent))) × (at < length (now flags)) × (probes + 1 < 2 ^ 64) ⌝ }
+    ensures { λ r. ⌜ r ≡ searchOf (wordsIn bytes (now (words .entry)) (now (lent .entry))) (now (flags .entry)) identity (run (place ∷ [])) probes ⌝ }
 {
     let s = at as usize;
     if flags[s] == 0 {
@@ -116,7 +138,7 @@ pub fn read(
             place,
         };
     }
-    if words[s] == identity {
+    if word(bytes, words, lent, at) == identity {
         return Search::Hit {
             probes: probes + 1,
             place,
@@ -136,9 +158,11 @@ pub fn scan_pairs(
     at_b: u64,
     w: u64,
     probes: u64,
+    lent: &[u8],
+    bytes: bool,
 ) -> Search
-    requires { ⌜ («at_a» + w ≤ length (now words)) × («at_b» + w ≤ length (now words)) × (length (now words) ≡ length (now flags)) × (probes + 2 * w < 2 ^ 64) ⌝ }
-    ensures { λ r. ⌜ r ≡ searchOf (now (words .entry)) (now (flags .entry)) identity (run (pairsFrom a b «at_a» «at_b» 0 w)) probes ⌝ }
+    requires { ⌜ («at_a» + w ≤ length (wordsIn bytes (now words) (now lent))) × («at_b» + w ≤ length (wordsIn bytes (now words) (now lent))) × (length (wordsIn bytes (now words) (now lent)) ≡ length (now flags)) × (probes + 2 * w < 2 ^ 64) ⌝ }
+    ensures { λ r. ⌜ r ≡ searchOf (wordsIn bytes (now (words .entry)) (now (lent .entry))) (now (flags .entry)) identity (run (pairsFrom a b «at_a» «at_b» 0 w)) probes ⌝ }
 {
     let mut i = 0;
     let mut made = probes;
@@ -149,7 +173,7 @@ pub fn scan_pairs(
             slot_in_bucket: i,
             global_slot: GlobalSlot(first),
         };
-        let found_a = read(words, flags, identity, place_a, first, made);
+        let found_a = read(words, flags, identity, place_a, first, made, lent, bytes);
         let Search::Full { probes: half } = found_a else {
             return found_a;
         };
@@ -159,7 +183,7 @@ pub fn scan_pairs(
             slot_in_bucket: i,
             global_slot: GlobalSlot(second),
         };
-        let found_b = read(words, flags, identity, place_b, second, half);
+        let found_b = read(words, flags, identity, place_b, second, half, lent, bytes);
         let Search::Full { probes: both } = found_b else {
             return found_b;
         };

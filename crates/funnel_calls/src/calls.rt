@@ -65,7 +65,7 @@ pub fn search(
 {
     match table_gate(table, counts, words.len() as u64, flags.len() as u64) {
         Gated::Refused(g) => SearchAnswer::Gate(g),
-        Gated::Passed => SearchAnswer::Found(funnel_search::search::find(
+        Gated::Passed => SearchAnswer::Found(funnel_numbers::search::find(
             table,
             counts,
             words,
@@ -87,7 +87,7 @@ pub fn insert(
 {
     match table_gate(table, counts, words.len() as u64, flags.len() as u64) {
         Gated::Refused(g) => InsertAnswer::Gate(g),
-        Gated::Passed => InsertAnswer::Done(funnel_insert::insert::insert(
+        Gated::Passed => InsertAnswer::Done(funnel_numbers::insert::insert(
             table,
             counts,
             words,
@@ -117,7 +117,7 @@ pub fn place_all(
         slots.len() as u64,
     ) {
         Gated::Refused(g) => PlaceAnswer::Gate(g),
-        Gated::Passed => PlaceAnswer::Done(funnel_place::place_all::place_all(
+        Gated::Passed => PlaceAnswer::Done(funnel_numbers::insert::place_all(
             table,
             counts,
             words,

@@ -7,6 +7,7 @@ ghost use Rattle.funnel.specs.Search.{searchOf, findOf};
 ghost use Rattle.funnel.specs.Stop.{StopsAt, WalksTo, FirstAhead};
 ghost use Rattle.funnel.specs.declared.table.Search.the-variants.{Full};
 ghost use Rattle.funnel.specs.Valid.{Valid, Keyed};
+ghost use Rattle.lent.specs.Lent.{wordsIn};
 use funnel::scan::halt;
 use funnel::scan::halted;
 use funnel::scan::pass;
@@ -26,19 +27,21 @@ use probe::word::funnel_key;
 use words::place::LogicalProbe;
 
 // The search for an identity in a valid table. Nearly always the walk settles it, or leads past the levels; the stages that may take
-// further words are calls, and get a copy of the table, so that it stays in registers.
+// further words are calls, and get copies of the table and of the slices, so that these stay in registers.
 pub fn find(
     table: FunnelTable,
     counts: &[u64; 118],
     words: &[u64],
     flags: &[u8],
     identity: u64,
+    lent: &[u8],
+    bytes: bool,
 ) -> Search
-    requires { ⌜ Valid table (now counts) (now words) (now flags) ⌝ }
-    ensures { λ r. ⌜ r ≡ findOf table (now (counts .entry)) (now (words .entry)) (now (flags .entry)) identity ⌝ }
+    requires { ⌜ Valid table (now counts) (wordsIn bytes (now words) (now lent)) (now flags) ⌝ }
+    ensures { λ r. ⌜ r ≡ findOf table (now (counts .entry)) (wordsIn bytes (now (words .entry)) (now (lent .entry))) (now (flags .entry)) identity ⌝ }
 {
     let key = funnel_key(table.seed, identity);
-    match walk(table, counts, words, flags, identity, key) {
+    match walk(table, counts, words, flags, identity, key, lent, bytes) {
         Walk::Hit(level, bucket, from, index) => {
             let beta = table.plan.beta;
             halted(Halt::Hit { index }, level, bucket, from, beta, level * beta)
@@ -56,12 +59,37 @@ pub fn find(
         }
         Walk::Past => {
             let rest = table;
+            let rest_words = words;
+            let rest_flags = flags;
+            let rest_lent = lent;
             let probes = rest.plan.alpha * rest.plan.beta;
-            search_special(rest, counts, words, flags, identity, key, probes)
+            search_special(
+                rest,
+                counts,
+                rest_words,
+                rest_flags,
+                identity,
+                key,
+                probes,
+                rest_lent,
+                bytes,
+            )
         }
         Walk::Unsettled => {
             let rest = table;
-            find_drawn(rest, counts, words, flags, identity, key)
+            let rest_words = words;
+            let rest_flags = flags;
+            let rest_lent = lent;
+            find_drawn(
+                rest,
+                counts,
+                rest_words,
+                rest_flags,
+                identity,
+                key,
+                rest_lent,
+                bytes,
+            )
         }
     }
 }
@@ -73,12 +101,14 @@ pub fn find_ordinary(
     words: &[u64],
     flags: &[u8],
     identity: u64,
+    lent: &[u8],
+    bytes: bool,
 ) -> Search
-    requires { ⌜ Valid table (now counts) (now words) (now flags) ⌝ }
-    ensures { λ r. ⌜ r ≡ searchOf (now (words .entry)) (now (flags .entry)) identity (levelsFrom (table .plan) (now (counts .entry)) (table .seed) (table .«word_cap») identity 0 (table .plan .alpha)) 0 ⌝ }
+    requires { ⌜ Valid table (now counts) (wordsIn bytes (now words) (now lent)) (now flags) ⌝ }
+    ensures { λ r. ⌜ r ≡ searchOf (wordsIn bytes (now (words .entry)) (now (lent .entry))) (now (flags .entry)) identity (levelsFrom (table .plan) (now (counts .entry)) (table .seed) (table .«word_cap») identity 0 (table .plan .alpha)) 0 ⌝ }
 {
     let key = funnel_key(table.seed, identity);
-    search_levels(table, counts, words, flags, identity, key)
+    search_levels(table, counts, words, flags, identity, key, lent, bytes)
 }
 
 // The search by draws that can take further words.
@@ -89,15 +119,27 @@ fn find_drawn(
     flags: &[u8],
     identity: u64,
     key: FunnelKey,
+    lent: &[u8],
+    bytes: bool,
 ) -> Search
-    requires { ⌜ Valid table (now counts) (now words) (now flags) × Keyed (table .seed) identity key ⌝ }
-    ensures { λ r. ⌜ r ≡ findOf table (now (counts .entry)) (now (words .entry)) (now (flags .entry)) identity ⌝ }
+    requires { ⌜ Valid table (now counts) (wordsIn bytes (now words) (now lent)) (now flags) × Keyed (table .seed) identity key ⌝ }
+    ensures { λ r. ⌜ r ≡ findOf table (now (counts .entry)) (wordsIn bytes (now (words .entry)) (now (lent .entry))) (now (flags .entry)) identity ⌝ }
 {
-    let ordinary = search_levels(table, counts, words, flags, identity, key);
+    let ordinary = search_levels(table, counts, words, flags, identity, key, lent, bytes);
     let Search::Full { probes: read } = ordinary else {
         return ordinary;
     };
-    search_special(table, counts, words, flags, identity, key, read)
+    search_special(
+        table,
+        counts,
+        words,
+        flags,
+        identity,
+        key,
+        read,
+        lent,
+        bytes,
+    )
 }
 
 // The search where the ordinary part of the path met neither the identity nor a vacancy.
@@ -109,17 +151,39 @@ fn search_special(
     identity: u64,
     key: FunnelKey,
     probes: u64,
+    lent: &[u8],
+    bytes: bool,
 ) -> Search
-    requires { ⌜ Valid table (now counts) (now words) (now flags) × Keyed (table .seed) identity key × (searchOf (now words) (now flags) identity (levelsFrom (table .plan) (now counts) (table .seed) (table .«word_cap») identity 0 (table .plan .alpha)) 0 ≡ Full probes) ⌝ }
-    ensures { λ r. ⌜ r ≡ findOf table (now (counts .entry)) (now (words .entry)) (now (flags .entry)) identity ⌝ }
+    requires { ⌜ Valid table (now counts) (wordsIn bytes (now words) (now lent)) (now flags) × Keyed (table .seed) identity key × (searchOf (wordsIn bytes (now words) (now lent)) (now flags) identity (levelsFrom (table .plan) (now counts) (table .seed) (table .«word_cap») identity 0 (table .plan .alpha)) 0 ≡ Full probes) ⌝ }
+    ensures { λ r. ⌜ r ≡ findOf table (now (counts .entry)) (wordsIn bytes (now (words .entry)) (now (lent .entry))) (now (flags .entry)) identity ⌝ }
 {
     let primary_start = table.n - table.plan.special_len;
-    let primary = search_primary(table, primary_start, words, flags, identity, key, probes);
+    let primary = search_primary(
+        table,
+        primary_start,
+        words,
+        flags,
+        identity,
+        key,
+        probes,
+        lent,
+        bytes,
+    );
     let Search::Full { probes: more } = primary else {
         return primary;
     };
     let fallback_start = primary_start + table.plan.special_primary_len;
-    search_fallback(table, fallback_start, words, flags, identity, key, more)
+    search_fallback(
+        table,
+        fallback_start,
+        words,
+        flags,
+        identity,
+        key,
+        more,
+        lent,
+        bytes,
+    )
 }
 
 // The levels by first words, as `pass_levels` walks them, with the numbers of a place.
@@ -130,9 +194,11 @@ fn walk(
     flags: &[u8],
     identity: u64,
     key: FunnelKey,
+    lent: &[u8],
+    bytes: bool,
 ) -> Walk
-    requires { ⌜ Valid table (now counts) (now words) (now flags) × Keyed (table .seed) identity key ⌝ }
-    ensures { λ r. ⌜ WalksTo (table .plan .alpha) (table .plan .beta) r (searchOf (now (words .entry)) (now (flags .entry)) identity (levelsFrom (table .plan) (now (counts .entry)) (table .seed) (table .«word_cap») identity 0 (table .plan .alpha)) 0) ⌝ }
+    requires { ⌜ Valid table (now counts) (wordsIn bytes (now words) (now lent)) (now flags) × Keyed (table .seed) identity key ⌝ }
+    ensures { λ r. ⌜ WalksTo (table .plan .alpha) (table .plan .beta) r (searchOf (wordsIn bytes (now (words .entry)) (now (lent .entry))) (now (flags .entry)) identity (levelsFrom (table .plan) (now (counts .entry)) (table .seed) (table .«word_cap») identity 0 (table .plan .alpha)) 0) ⌝ }
 {
     let alpha = table.plan.alpha;
     let beta = table.plan.beta;
@@ -147,7 +213,7 @@ fn walk(
         // The next level's bucket is drawn before this one is read, so that it is at hand when this one is full.
         let ahead = first_bucket(key, counts, table.plan.alpha, level + 1);
         let from = start + bucket * beta;
-        match halt(words, flags, identity, from, beta) {
+        match halt(words, flags, identity, from, beta, lent, bytes) {
             Halt::Hit { index } => {
                 return Walk::Hit(level, bucket, from, index);
             }
@@ -171,9 +237,11 @@ pub fn pass_levels(
     words: &[u64],
     flags: &[u8],
     identity: u64,
+    lent: &[u8],
+    bytes: bool,
 ) -> Stop
-    requires { ⌜ Valid table (now counts) (now words) (now flags) ⌝ }
-    ensures { λ r. ⌜ StopsAt r (findOf table (now (counts .entry)) (now (words .entry)) (now (flags .entry)) identity) (Unit {0}) ⌝ }
+    requires { ⌜ Valid table (now counts) (wordsIn bytes (now words) (now lent)) (now flags) ⌝ }
+    ensures { λ r. ⌜ StopsAt r (findOf table (now (counts .entry)) (wordsIn bytes (now (words .entry)) (now (lent .entry))) (now (flags .entry)) identity) (Unit {0}) ⌝ }
 {
     let key = funnel_key(table.seed, identity);
     let alpha = table.plan.alpha;
@@ -189,7 +257,7 @@ pub fn pass_levels(
         // As in `search_levels`, the next level's bucket is drawn before this one is read.
         let ahead = first_bucket(key, counts, table.plan.alpha, level + 1);
         let from = start + bucket * beta;
-        let stop = pass(words, flags, identity, from, beta);
+        let stop = pass(words, flags, identity, from, beta, lent, bytes);
         let Stop::Nowhere = stop else {
             return stop;
         };

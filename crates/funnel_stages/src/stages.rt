@@ -7,6 +7,7 @@ ghost use Rattle.probe.specs.Range.{drawOf};
 ghost use Rattle.funnel.specs.Path.{levelsFrom, primaryFrom, fallbackOf};
 ghost use Rattle.funnel.specs.Search.{searchOf};
 ghost use Rattle.funnel.specs.Valid.{Valid, Keyed, SpecialRoom, Drawable, DrawnAhead};
+ghost use Rattle.lent.specs.Lent.{wordsIn};
 use funnel::scan::read;
 use funnel::scan::scan;
 use funnel::scan::scan_pairs;
@@ -30,9 +31,11 @@ pub fn search_levels(
     flags: &[u8],
     identity: u64,
     key: FunnelKey,
+    lent: &[u8],
+    bytes: bool,
 ) -> Search
-    requires { ⌜ Valid table (now counts) (now words) (now flags) × Keyed (table .seed) identity key ⌝ }
-    ensures { λ r. ⌜ r ≡ searchOf (now (words .entry)) (now (flags .entry)) identity (levelsFrom (table .plan) (now (counts .entry)) (table .seed) (table .«word_cap») identity 0 (table .plan .alpha)) 0 ⌝ }
+    requires { ⌜ Valid table (now counts) (wordsIn bytes (now words) (now lent)) (now flags) × Keyed (table .seed) identity key ⌝ }
+    ensures { λ r. ⌜ r ≡ searchOf (wordsIn bytes (now (words .entry)) (now (lent .entry))) (now (flags .entry)) identity (levelsFrom (table .plan) (now (counts .entry)) (table .seed) (table .«word_cap») identity 0 (table .plan .alpha)) 0 ⌝ }
 {
     let alpha = table.plan.alpha;
     let beta = table.plan.beta;
@@ -49,7 +52,18 @@ pub fn search_levels(
                 // The next level's bucket is drawn before this one is read, so that it is at hand when this one is full.
                 let ahead = draw_level(key, counts, alpha, level + 1, table.word_cap);
                 let from = start + index * beta;
-                let found = scan(words, flags, identity, level, index, from, beta, probes);
+                let found = scan(
+                    words,
+                    flags,
+                    identity,
+                    level,
+                    index,
+                    from,
+                    beta,
+                    probes,
+                    lent,
+                    bytes,
+                );
                 let Search::Full { probes: read } = found else {
                     return found;
                 };
@@ -84,9 +98,11 @@ pub fn search_primary(
     identity: u64,
     key: FunnelKey,
     probes: u64,
+    lent: &[u8],
+    bytes: bool,
 ) -> Search
-    requires { ⌜ SpecialRoom table start (table .plan .«special_primary_len») (length (now words)) (length (now flags)) probes × Keyed (table .seed) identity key ⌝ }
-    ensures { λ r. ⌜ r ≡ searchOf (now (words .entry)) (now (flags .entry)) identity (primaryFrom (table .plan) start (table .seed) (table .«word_cap») identity 0 (table .plan .«loglog_ceiling»)) probes ⌝ }
+    requires { ⌜ SpecialRoom table start (table .plan .«special_primary_len») (length (wordsIn bytes (now words) (now lent))) (length (now flags)) probes × Keyed (table .seed) identity key ⌝ }
+    ensures { λ r. ⌜ r ≡ searchOf (wordsIn bytes (now (words .entry)) (now (lent .entry))) (now (flags .entry)) identity (primaryFrom (table .plan) start (table .seed) (table .«word_cap») identity 0 (table .plan .«loglog_ceiling»)) probes ⌝ }
 {
     let primary_len = table.plan.special_primary_len;
     let loglog_ceiling = table.plan.loglog_ceiling;
@@ -104,7 +120,7 @@ pub fn search_primary(
                     slot: index,
                     global_slot: GlobalSlot(at),
                 };
-                let found = read(words, flags, identity, place, at, made);
+                let found = read(words, flags, identity, place, at, made, lent, bytes);
                 let Search::Full { probes: now_made } = found else {
                     return found;
                 };
@@ -125,9 +141,11 @@ pub fn search_fallback(
     identity: u64,
     key: FunnelKey,
     probes: u64,
+    lent: &[u8],
+    bytes: bool,
 ) -> Search
-    requires { ⌜ SpecialRoom table start (table .plan .«fallback_bucket_count» * table .plan .«fallback_bucket_width») (length (now words)) (length (now flags)) probes × Keyed (table .seed) identity key ⌝ }
-    ensures { λ r. ⌜ r ≡ searchOf (now (words .entry)) (now (flags .entry)) identity (fallbackOf (table .plan) start (table .seed) (table .«word_cap») identity) probes ⌝ }
+    requires { ⌜ SpecialRoom table start (table .plan .«fallback_bucket_count» * table .plan .«fallback_bucket_width») (length (wordsIn bytes (now words) (now lent))) (length (now flags)) probes × Keyed (table .seed) identity key ⌝ }
+    ensures { λ r. ⌜ r ≡ searchOf (wordsIn bytes (now (words .entry)) (now (lent .entry))) (now (flags .entry)) identity (fallbackOf (table .plan) start (table .seed) (table .«word_cap») identity) probes ⌝ }
 {
     let buckets = table.plan.fallback_bucket_count;
     let width = table.plan.fallback_bucket_width;
@@ -140,7 +158,19 @@ pub fn search_fallback(
                 Drawn::Index { index: b, words: _ } => {
                     let at_a = start + a * width;
                     let at_b = start + b * width;
-                    scan_pairs(words, flags, identity, a, b, at_a, at_b, width, probes)
+                    scan_pairs(
+                        words,
+                        flags,
+                        identity,
+                        a,
+                        b,
+                        at_a,
+                        at_b,
+                        width,
+                        probes,
+                        lent,
+                        bytes,
+                    )
                 }
             }
         }

@@ -26,7 +26,7 @@ use Rattle.gridder_calls.specs.Calls.{callGate, stateGate, searchReply, 
 use Rattle.lent.specs.Lent.{wordsOf, wordCount}
 use Rattle.lent.specs.LentLaws.{length-whole, count-some}
 use Rattle.gridder_state.specs.State.{holdsFunnel, tableIn, countsIn, withCountIn}
-use Rattle.lent.specs.Valid.{ValidLent}
+use Rattle.funnel.specs.ValidLent.{ValidLent}
 
 -- ---- the gate
 

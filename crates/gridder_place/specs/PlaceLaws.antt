@@ -20,7 +20,7 @@ use Rattle.funnel.specs.Insert.{placed, placeAllOf}
 use Rattle.funnel.specs.declared.table.FunnelTable.{FunnelTable}
 use Rattle.funnel.specs.declared.table.Placement.{Placement}
 use Rattle.lent.specs.Lent.{wordsOf, wordCount}
-use Rattle.lent.specs.Valid.{LentRoom}
+use Rattle.funnel.specs.ValidLent.{LentRoom}
 use Rattle.gridder_answer.specs.Answer.{says, saying, placementFields, Reply, reply}
 use Rattle.gridder_calls.specs.Calls.{callGate}
 use Rattle.gridder_calls.specs.CallLaws.{Ready, ready}

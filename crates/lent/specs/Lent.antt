@@ -1,4 +1,5 @@
 -- Words lent as little-endian bytes, eight to a word. Assumes nothing.
+use mathlib.Core.Bool.{Bool, true, false}
 use mathlib.Core.List.{List, [], _∷_, _++_}
 use Prim.Native.Nat.{ℕ, zero, suc, _+_, _*_, _/_, _%_}
 use lib.Dec.{eqb}
@@ -24,3 +25,12 @@ wordCount len = pick (eqb (len % 8) 0) (len / 8) 0
 unfoldable pub lent : List ℕ → List ℕ
 lent [] = []
 lent (x ∷ words) = bytesOf 8 x ++ lent words
+
+-- the whole words that bytes are: a last word of fewer than eight bytes is none
+unfoldable pub wholeOf : List ℕ → List ℕ
+wholeOf b = wordsFrom b 0 (length b / 8)
+
+-- words lent in one of two ways: as bytes, or as numbers
+unfoldable pub wordsIn : (bytes : Bool) (words lent : List ℕ) → List ℕ
+wordsIn true words lent = wholeOf lent
+wordsIn false words lent = words

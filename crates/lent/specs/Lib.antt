@@ -1,4 +1,3 @@
 pub mod Lent
 pub mod LentLaws
-pub mod Valid
-pub mod ValidLaws
+pub mod StoreLaws

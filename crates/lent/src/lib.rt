@@ -1,10 +1,14 @@
-// Words lent as little-endian bytes, eight to a word, as the calls for C get them: what they are, and how one is read.
+// Words lent in one of two ways: as numbers, or as little-endian bytes, eight to a word, as the calls for C get them: what they are, and how one is read
+// and stored.
 //
-// The base's walks are written again over this storage in the crates above: `lent_search` and `lent_insert` for funnel tables, `lent_elastic`
-// for elastic ones, `lent_check` for the check. A contract there speaks of the words that the bytes are, so the definitions are the base's own.
+// The walks of a funnel table are written once over both, with the slice of the other storage empty: `funnel` and the crates above it. `funnel_numbers`
+// lends them numbers, `lent_search` and `lent_insert` bytes. Elastic tables and the check are still written once more for bytes, in `lent_elastic` and
+// `lent_check`. A contract there speaks of the words that the bytes are, so the definitions are the base's own.
 //
-//     word.rt    the word of a slot, and how many words some bytes are
+//     store.rt   the word of a slot in either storage, and how many words are lent
+//     word.rt    the word of a slot in bytes, and how many words some bytes are
 //
-// specs/Lent.antt says what words lent as bytes are, Valid.antt when a funnel table of them is valid.
+// specs/Lent.antt says what words lent as bytes are, and what words in two slices are.
 
+pub mod store;
 pub mod word;

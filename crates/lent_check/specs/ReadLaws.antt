@@ -17,7 +17,7 @@ use Rattle.audit.specs.ReadyLaws.{vacantAt, ready-stopped, ready-there, ready-e
 use Rattle.audit.specs.Special.{ordinaryPath, specialPath, goesOn, live}
 use Rattle.audit.specs.SpecialLaws.{live-found}
 use Rattle.audit.specs.Waits.{specialEnd}
-use Rattle.lent.specs.Valid.{ValidLent}
+use Rattle.funnel.specs.ValidLent.{ValidLent}
 
 -- a table stays valid with other flags of the same number
 pub lent-marks : {table : FunnelTable} {counts words flags : List ℕ} → ValidLent table counts words flags → (marks : List ℕ) → length marks ≡ table .n

@@ -4,7 +4,7 @@ use mathlib.Core.Path.{_≡_}
 use Prim.Native.Nat.{ℕ, _*_}
 use lib.ListN.{length}
 use Rattle.funnel.specs.declared.table.FunnelTable.{FunnelTable}
-use Rattle.lent.specs.Valid.{ValidLent}
+use Rattle.funnel.specs.ValidLent.{ValidLent}
 
 -- a table past STATE, with marks and an order n long, words and order lent as bytes
 pub record CheckLent (table : FunnelTable) (counts words flags marks order : List ℕ) : Type 0 where

@@ -8,7 +8,7 @@ ghost use Rattle.audit.specs.Marked.{Listed};
 ghost use Rattle.audit.specs.Verdicts.{Early};
 ghost use Rattle.funnel.specs.Path.{primaryStart};
 ghost use Rattle.lent.specs.Lent.{wordsOf};
-ghost use Rattle.lent.specs.Valid.{ValidLent};
+ghost use Rattle.funnel.specs.ValidLent.{ValidLent};
 ghost use Rattle.lent_check.specs.Valid.{CheckLent};
 use crate::ready::is_ready;
 use crate::restore::restore;

@@ -7,15 +7,15 @@ ghost use Rattle.audit.specs.ReadyLaws.{vacantAt};
 ghost use Rattle.funnel.specs.Search.{findOf};
 ghost use Rattle.funnel.specs.Stop.{StopsAt};
 ghost use Rattle.lent.specs.Lent.{wordsOf};
-ghost use Rattle.lent.specs.Valid.{ValidLent};
+ghost use Rattle.funnel.specs.ValidLent.{ValidLent};
 use funnel::table::FunnelTable;
 use funnel::table::Search;
 use funnel::table::Stop;
 use funnel::table::slot_of;
 use funnel_search::search::first_bucket;
 use lent::word::word_at;
-use lent_search::scan::pass;
 use lent_search::walk::find;
+use lent_search::walk::pass;
 use probe::word::funnel_key;
 
 // Whether a slot is ready, with some placed.

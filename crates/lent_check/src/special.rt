@@ -7,7 +7,7 @@ ghost use Rattle.audit.specs.Waits.{specialEnd, vacancyOf, Begun, Finished, Cho
 ghost use Rattle.funnel.specs.Path.{primaryStart};
 ghost use Rattle.funnel.specs.Search.{searchOf};
 ghost use Rattle.lent.specs.Lent.{wordsOf};
-ghost use Rattle.lent.specs.Valid.{ValidLent};
+ghost use Rattle.funnel.specs.ValidLent.{ValidLent};
 ghost use Rattle.waiting.specs.Links.{Fits};
 use audit::slots::First;
 use funnel::table::FunnelTable;

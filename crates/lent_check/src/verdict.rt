@@ -6,7 +6,7 @@ ghost use Rattle.audit.specs.Special.{live};
 ghost use Rattle.audit.specs.Verdicts.{Judged};
 ghost use Rattle.funnel.specs.Path.{primaryStart};
 ghost use Rattle.lent.specs.Lent.{wordsOf};
-ghost use Rattle.lent.specs.Valid.{ValidLent};
+ghost use Rattle.funnel.specs.ValidLent.{ValidLent};
 use funnel::table::FunnelTable;
 use funnel::table::Search;
 use lent::word::word_at;

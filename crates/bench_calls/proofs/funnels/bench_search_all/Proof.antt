@@ -17,8 +17,11 @@ enum-told c = search needs
 enum-told-2 : tie.Need-enum-told-2
 enum-told-2 c = search needs
 
+slice-aggregate-sum-probes : tie.Need-slice-aggregate-sum-probes
+slice-aggregate-sum-probes c = search needs
+
 sum-probes-requires : tie.Need-sum-probes-requires
-sum-probes-requires c κs = gate-valid _ _ _ _ (sym (c .before .before .table-gate .ensures) ∙ c .enum-told2 .given .1)
+sum-probes-requires c κs = gate-valid _ _ _ _ (sym (c .before .before .before .table-gate .ensures) ∙ c .before .enum-told2 .given .1)
 
 returns : tie.Need-returns
 returns c = search needs
@@ -34,6 +37,7 @@ bench-search-all-spec =
     table-gate-requires
     enum-told
     enum-told-2
+    slice-aggregate-sum-probes
     sum-probes-requires
     returns
     returns-2)

@@ -2,14 +2,15 @@
 use borrow.Author.Needs.{needs}
 use Prim.Native.Nat.{_-_, _≤_}
 use lib.ListN.{length}
+use Rattle.lent.specs.Lent.{wordsIn}
 use Rattle.bench_calls.proofs.funnels.sum_probes.Statement.{statement}
 use Rattle.bench_calls.proofs.funnels.sum_probes.Tie as tie
 
 abbrev Inv-loop : tie.InvT-loop
-Inv-loop table counts words flags identities sum₀ i₀ sum i = i ≤ length identities
+Inv-loop table counts words flags identities none sum₀ i₀ sum i = i ≤ length identities
 
 abbrev μ-loop : tie.MeasureT-loop
-μ-loop table counts words flags identities sum₀ i₀ sum i = length identities - i
+μ-loop table counts words flags identities none sum₀ i₀ sum i = length identities - i
 
 loop-holds : tie.Need-loop-holds Inv-loop μ-loop
 loop-holds c = search needs
@@ -21,7 +22,8 @@ shared-slice-read-find : tie.Need-shared-slice-read-find Inv-loop μ-loop
 shared-slice-read-find c = search needs
 
 find-requires : tie.Need-find-requires Inv-loop μ-loop
-find-requires c κs = c .before .before .before .before .before .before .pre
+unfolding wordsIn
+find-requires c κs = c .before .before .before .before .before .before .before .pre
 
 probes-of-requires : tie.Need-probes-of-requires Inv-loop μ-loop
 probes-of-requires c κs = search needs

@@ -3,6 +3,7 @@ use Prim.Native.Nat.{_+_, _*_, _-_, _≤_}
 use mathlib.Core.Path.{_≡_, sym, _∙_, ap, refl}
 use native.Mathlib.Omega.{arith}
 use borrow.Author.Needs.{needs}
+use Rattle.lent.specs.Lent.{wordsIn}
 use Rattle.funnel.specs.SearchLaws.{resume}
 use Rattle.funnel.specs.StageLaws.{read-full, PairsLeft, pairs-none, pairs-a, pairs-b, pairs-end}
 use Rattle.funnel.proofs.Stays.{stays}
@@ -10,10 +11,10 @@ use Rattle.funnel.proofs.scan.scan_pairs.Statement.{statement}
 use Rattle.funnel.proofs.scan.scan_pairs.Tie as tie
 
 abbrev Inv-loop : tie.InvT-loop
-Inv-loop words flags identity a b at-a at-b w probes i₀ made₀ i made = (i ≤ w) × (made ≡ probes + 2 * i) × PairsLeft words flags identity a b at-a at-b w probes i made
+Inv-loop words flags identity a b at-a at-b w probes lent bytes i₀ made₀ i made = (i ≤ w) × (made ≡ probes + 2 * i) × PairsLeft (wordsIn bytes words lent) flags identity a b at-a at-b w probes i made
 
 abbrev μ-loop : tie.MeasureT-loop
-μ-loop words flags identity a b at-a at-b w probes i₀ made₀ i made = w - i
+μ-loop words flags identity a b at-a at-b w probes lent bytes i₀ made₀ i made = w - i
 
 loop-holds : tie.Need-loop-holds Inv-loop μ-loop
 loop-holds c = (omega arith, omega arith, pairs-none _ _ _ _ _ _ _ _ _)

@@ -9,40 +9,40 @@ funnel-key-requires : tie.Need-funnel-key-requires
 funnel-key-requires c κs = search needs
 
 walk-requires : tie.Need-walk-requires
-walk-requires c κs = (c .before .before .before .pre, record { is-inner = c .funnel-key .ensures .0; is-outer = c .funnel-key .ensures .1 })
+walk-requires c κs = (c .before .before .before .before .pre, record { is-inner = c .funnel-key .ensures .0; is-outer = c .funnel-key .ensures .1 })
 
 enum-known-level : tie.Need-enum-known-level
 enum-known-level c = search needs
 
 mul-halted : tie.Need-mul-halted
-mul-halted c = let h = walked-hit (c .before .before .before .before .before .before .before .args .table) _ _ _ _ _ (c .before .before .before .walk .ensures) _ _ _ _ (c .before .level .given .1) in omega (arith, h .probes)
+mul-halted c = let h = walked-hit (c .before .before .before .before .before .before .before .before .args .table) _ _ _ _ _ (c .before .before .before .walk .ensures) _ _ _ _ (c .before .level .given .1) in omega (arith, h .probes)
 
 halted-requires : tie.Need-halted-requires
-halted-requires c κs = let h = walked-hit (c .before .before .before .before .before .before .before .args .table) _ _ _ _ _ (c .before .before .before .walk .ensures) _ _ _ _ (c .before .level .given .1) in (h .inside, h .slots, h .probes)
+halted-requires c κs = let h = walked-hit (c .before .before .before .before .before .before .before .before .args .table) _ _ _ _ _ (c .before .before .before .walk .ensures) _ _ _ _ (c .before .level .given .1) in (h .inside, h .slots, h .probes)
 
 enum-known-level-2 : tie.Need-enum-known-level-2
 enum-known-level-2 c = search needs
 
 mul-halted-2 : tie.Need-mul-halted-2
-mul-halted-2 c = let h = walked-vacant (c .before .before .before .before .before .before .before .args .table) _ _ _ _ _ (c .before .before .before .walk .ensures) _ _ _ _ (c .before .level2 .given .1) in omega (arith, h .probes)
+mul-halted-2 c = let h = walked-vacant (c .before .before .before .before .before .before .before .before .args .table) _ _ _ _ _ (c .before .before .before .walk .ensures) _ _ _ _ (c .before .level2 .given .1) in omega (arith, h .probes)
 
 halted-requires-2 : tie.Need-halted-requires-2
-halted-requires-2 c κs = let h = walked-vacant (c .before .before .before .before .before .before .before .args .table) _ _ _ _ _ (c .before .before .before .walk .ensures) _ _ _ _ (c .before .level2 .given .1) in (h .inside, h .slots, h .probes)
+halted-requires-2 c κs = let h = walked-vacant (c .before .before .before .before .before .before .before .before .args .table) _ _ _ _ _ (c .before .before .before .walk .ensures) _ _ _ _ (c .before .level2 .given .1) in (h .inside, h .slots, h .probes)
 
 enum-told : tie.Need-enum-told
 enum-told c = search needs
 
 mul-probes : tie.Need-mul-probes
-mul-probes c = let f = levels-few (c .before .before .before .before .before .before .before .pre) in omega (arith, f)
+mul-probes c = let f = levels-few (c .before .before .before .before .before .before .before .before .pre) in omega (arith, f)
 
 search-special-requires : tie.Need-search-special-requires
-search-special-requires c κs = (c .before .before .before .before .before .before .before .pre, record { is-inner = c .before .before .before .before .funnel-key .ensures .0; is-outer = c .before .before .before .before .funnel-key .ensures .1 }, walked-past (c .before .before .before .before .before .before .before .args .table) _ _ _ _ _ (c .before .before .before .walk .ensures) (c .before .enum-told .given .1))
+search-special-requires c κs = (c .before .before .before .before .before .before .before .before .pre, record { is-inner = c .before .before .before .before .funnel-key .ensures .0; is-outer = c .before .before .before .before .funnel-key .ensures .1 }, walked-past (c .before .before .before .before .before .before .before .before .args .table) _ _ _ _ _ (c .before .before .before .walk .ensures) (c .before .enum-told .given .1))
 
 enum-told-2 : tie.Need-enum-told-2
 enum-told-2 c = search needs
 
 find-drawn-requires : tie.Need-find-drawn-requires
-find-drawn-requires c κs = (c .before .before .before .before .before .before .pre, record { is-inner = c .before .before .before .funnel-key .ensures .0; is-outer = c .before .before .before .funnel-key .ensures .1 })
+find-drawn-requires c κs = (c .before .before .before .before .before .before .before .pre, record { is-inner = c .before .before .before .funnel-key .ensures .0; is-outer = c .before .before .before .funnel-key .ensures .1 })
 
 returns : tie.Need-returns
 returns c = found-hit _ _ _ _ _ _ (c .before .before .before .before .walk .ensures) _ _ _ _ _ (c .halted .ensures) (c .before .before .level .given .1)

@@ -16,7 +16,7 @@ returns : tie.Need-returns
 returns c = stays _ _ _ _ _ (c .match .keys2) ∙ sym (find-levels _ _ _ _ _ _ (c .before .search-levels .ensures))
 
 search-special-requires : tie.Need-search-special-requires
-search-special-requires c κs = (c .before .before .before .before .before .before .pre .0, c .before .before .before .before .before .before .pre .1, sym (c .before .before .before .search-levels .ensures) ∙ c .before .ordinary .given .1)
+search-special-requires c κs = (c .before .before .before .before .before .before .before .pre .0, c .before .before .before .before .before .before .before .pre .1, sym (c .before .before .before .search-levels .ensures) ∙ c .before .ordinary .given .1)
 
 returns-2 : tie.Need-returns-2
 returns-2 c = c .search-special .ensures

@@ -9,25 +9,25 @@ use Rattle.funnel_search.proofs.search.search_special.Statement.{statem
 use Rattle.funnel_search.proofs.search.search_special.Tie as tie
 
 sub-primary-start : tie.Need-sub-primary-start
-sub-primary-start c = let f = plan-facts (c .before .before .before .pre .0 .planned) in omega arith
+sub-primary-start c = let f = plan-facts (c .before .before .before .before .pre .0 .planned) in omega arith
 
 search-primary-requires : tie.Need-search-primary-requires
-search-primary-requires c κs = (primary-ready _ _ _ _ _ _ refl (c .before .before .before .pre .0) _ (c .before .before .before .pre .2), c .before .before .before .pre .1)
+search-primary-requires c κs = (primary-ready _ _ _ _ _ _ refl (c .before .before .before .before .pre .0) _ (c .before .before .before .before .pre .2), c .before .before .before .before .pre .1)
 
 enum-known-primary : tie.Need-enum-known-primary
 enum-known-primary c = search needs
 
 returns : tie.Need-returns
-returns c = stays _ _ _ _ _ (c .match .keys2) ∙ sym (find-primary _ _ _ _ _ _ refl (c .before .before .before .before .before .pre .0) _ (c .before .before .before .before .before .pre .2) _ (c .before .search-primary .ensures))
+returns c = stays _ _ _ _ _ (c .match .keys2) ∙ sym (find-primary _ _ _ _ _ _ refl (c .before .before .before .before .before .before .pre .0) _ (c .before .before .before .before .before .before .pre .2) _ (c .before .search-primary .ensures))
 
 add-fallback-start : tie.Need-add-fallback-start
-add-fallback-start c = let f = plan-facts (c .before .before .before .before .before .before .before .before .pre .0 .planned) in omega arith
+add-fallback-start c = let f = plan-facts (c .before .before .before .before .before .before .before .before .before .pre .0 .planned) in omega arith
 
 search-fallback-requires : tie.Need-search-fallback-requires
-search-fallback-requires c κs = (fallback-ready _ _ _ _ _ _ refl (c .before .before .before .before .before .before .before .before .pre .0) _ (c .before .before .before .before .before .before .before .before .pre .2) _ (c .before .before .before .before .search-primary .ensures) _ (c .before .before .primary .given .1), c .before .before .before .before .before .before .before .before .pre .1)
+search-fallback-requires c κs = (fallback-ready _ _ _ _ _ _ refl (c .before .before .before .before .before .before .before .before .before .pre .0) _ (c .before .before .before .before .before .before .before .before .before .pre .2) _ (c .before .before .before .before .search-primary .ensures) _ (c .before .before .primary .given .1), c .before .before .before .before .before .before .before .before .before .pre .1)
 
 returns-2 : tie.Need-returns-2
-returns-2 c = find-fallback _ _ _ _ _ _ refl (c .before .before .before .before .before .before .before .before .before .pre .0) _ (c .before .before .before .before .before .before .before .before .before .pre .2) _ (c .before .before .before .before .before .search-primary .ensures) _ (c .before .before .before .primary .given .1) _ (c .search-fallback .ensures)
+returns-2 c = find-fallback _ _ _ _ _ _ refl (c .before .before .before .before .before .before .before .before .before .before .pre .0) _ (c .before .before .before .before .before .before .before .before .before .before .pre .2) _ (c .before .before .before .before .before .search-primary .ensures) _ (c .before .before .before .primary .given .1) _ (c .search-fallback .ensures)
 
 pub search-special-spec : {M : Type 1} → statement M
 search-special-spec =

@@ -4,7 +4,7 @@ use mathlib.Core.Path.{subst}
 use native.Mathlib.Omega.{arith}
 use borrow.Author.Needs.{needs}
 use Rattle.lent.specs.Lent.{wordsOf}
-use Rattle.lent.specs.ValidLaws.{whole-flags}
+use Rattle.funnel.specs.ValidLent.{whole-flags}
 use Rattle.geometry.specs.FunnelLaws.{plan-facts}
 use Rattle.funnel.specs.PlanLaws.{valid-drawable, level-room}
 use Rattle.funnel.specs.Stop.{StopsAt, BucketStops}

@@ -1,5 +1,5 @@
 -- `lent_check::special::find_special` meets its contract: two stages, the second resumed where the first met no vacancy. Assumes nothing.
-use Rattle.lent.specs.ValidLaws.{whole-flags}
+use Rattle.funnel.specs.ValidLent.{whole-flags}
 use mathlib.Core.Path.{_∙_}
 use native.Mathlib.Omega.{arith}
 use Rattle.geometry.specs.FunnelLaws.{plan-facts}

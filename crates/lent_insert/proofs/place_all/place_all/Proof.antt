@@ -1,132 +1,42 @@
--- `lent_insert::place_all::place_all` meets its contract. The invariant: what is left to place gives what the whole gives. Assumes nothing.
-use mathlib.Core.Path.{_≡_}
-use Prim.Native.Nat.{_-_, _/_}
-use lib.ListN.{length}
-use native.Mathlib.Omega.{arith}
+-- `lent_insert::place_all::place_all` meets its contract. The engine with bytes lent. Assumes nothing.
+use Rattle.lent_search.specs.EdgeLaws.{words-valid, valid-in, words-after, identities-in, slots-in, slots-after, room-in}
 use borrow.Author.Needs.{needs}
-use Rattle.geometry.specs.FunnelLaws.{plan-facts}
-use Rattle.funnel.specs.PlaceLaws.{placed-table}
-use Rattle.lent_insert.specs.PlaceLaws.{PlacingLent, placing-none, placing-valid, placing-lengths, placing-put, placing-there, placing-refused, placing-all}
 use Rattle.lent_insert.proofs.place_all.place_all.Statement.{statement}
 use Rattle.lent_insert.proofs.place_all.place_all.Tie as tie
 
-abbrev Inv-loop : tie.InvT-loop
-Inv-loop table counts words₀ flags₀ identities slots₀ count₀ total i₀ words flags slots count i = PlacingLent table counts words₀ flags₀ identities slots₀ words flags slots count i
+slice-aggregate-place-all : tie.Need-slice-aggregate-place-all
+slice-aggregate-place-all c = search needs
 
-abbrev μ-loop : tie.MeasureT-loop
-μ-loop table counts words₀ flags₀ identities slots₀ count₀ total i₀ words flags slots count i = length identities / 8 - i
+slice-aggregate-place-all-2 : tie.Need-slice-aggregate-place-all-2
+slice-aggregate-place-all-2 c = search needs
 
-loop-holds : tie.Need-loop-holds Inv-loop μ-loop
-loop-holds c = placing-none _ _ _ _ _ _ (c .before .before .before .before .pre .0) (c .before .before .before .before .pre .1)
+slice-aggregate-place-all-3 : tie.Need-slice-aggregate-place-all-3
+slice-aggregate-place-all-3 c = search needs
 
-word-at-requires : tie.Need-word-at-requires Inv-loop μ-loop
-word-at-requires c κs = let l = c .loop-test .taken in omega arith
+place-all-requires : tie.Need-place-all-requires
+place-all-requires c κs = (valid-in (c .before .before .before .before .before .before .before .before .before .before .pre .0), room-in (c .before .before .before .before .before .before .before .before .before .before .pre .1))
 
-settle-requires : tie.Need-settle-requires Inv-loop μ-loop
-settle-requires c κs = (placing-valid _ _ _ _ _ _ (c .before .before .before .before .loop .inv), c .before .before .before .before .loop .inv .placing .most)
+same-length : tie.Need-same-length
+same-length c = search needs
 
-enum-known-slot : tie.Need-enum-known-slot Inv-loop μ-loop
-enum-known-slot c = search needs
+same-length-2 : tie.Need-same-length-2
+same-length-2 c = search needs
 
-mul-write64 : tie.Need-mul-write64 Inv-loop μ-loop
-mul-write64 c = let l = c .before .before .before .before .before .before .before .before .before .before .before .before .loop-test .taken in omega (arith, c .before .before .before .before .before .before .before .before .before .before .before .before .before .before .before .before .before .before .good .1 .1 .1 .1 .0 .1)
+same-length-3 : tie.Need-same-length-3
+same-length-3 c = search needs
 
-write64-requires : tie.Need-write64-requires Inv-loop μ-loop
-write64-requires c κs = let q = c .before .before .before .before .before .before .before .before .before .before .before .before .before .loop .inv .room .room in let l = c .before .before .before .before .before .before .before .before .before .before .before .before .loop-test .taken in omega arith
-
-add-count : tie.Need-add-count Inv-loop μ-loop
-add-count c = let p = placing-put _ _ _ _ _ _ (c .before .before .before .before .before .before .before .before .before .before .before .before .before .before .before .before .loop .inv) (c .before .before .before .before .before .before .before .before .before .before .before .before .before .before .before .loop-test .taken) _ (c .before .before .before .before .before .before .before .before .before .before .before .before .before .before .word-at .ensures) _ _ _ (c .before .before .before .before .before .before .before .before .before .before .before .settle .kept .1 .1 .1 .0) (c .before .before .before .before .before .before .before .before .before .before .before .settle .ensures) _ _ (c .before .before .write64 .ensures) (omega arith) (c .before .before .before .before .before .slot .given .1) .0 in let f = plan-facts (c .before .before .before .before .before .before .before .before .before .before .before .before .before .before .before .before .loop .inv .placing .valid .planned) in omega arith
-
-add-i : tie.Need-add-i Inv-loop μ-loop
-add-i c = let l = c .before .before .before .before .before .before .before .before .before .before .before .before .before .before .before .loop-test .taken in omega (arith, c .before .before .before .before .before .before .before .before .before .before .before .before .before .before .before .before .before .before .before .before .before .good .1 .1 .1 .1 .0 .1)
-
-loop-less : tie.Need-loop-less Inv-loop μ-loop
-loop-less c = let l = c .before .before .before .before .before .before .before .before .before .before .before .before .before .before .before .loop-test .taken in omega arith
-
-loop-again : tie.Need-loop-again Inv-loop μ-loop
-loop-again c = placing-put _ _ _ _ _ _ (c .before .before .before .before .before .before .before .before .before .before .before .before .before .before .before .before .loop .inv) (c .before .before .before .before .before .before .before .before .before .before .before .before .before .before .before .loop-test .taken) _ (c .before .before .before .before .before .before .before .before .before .before .before .before .before .before .word-at .ensures) _ _ _ (c .before .before .before .before .before .before .before .before .before .before .before .settle .kept .1 .1 .1 .0) (c .before .before .before .before .before .before .before .before .before .before .before .settle .ensures) _ _ (c .before .before .write64 .ensures) (omega arith) (c .before .before .before .before .before .slot .given .1) .1
-
-enum-known-slot-2 : tie.Need-enum-known-slot-2 Inv-loop μ-loop
-enum-known-slot-2 c = search needs
-
-mul-write64-2 : tie.Need-mul-write64-2 Inv-loop μ-loop
-mul-write64-2 c = let l = c .before .before .before .before .before .before .before .before .before .before .before .before .loop-test .taken in omega (arith, c .before .before .before .before .before .before .before .before .before .before .before .before .before .before .before .before .before .before .good .1 .1 .1 .1 .0 .1)
-
-write64-requires-2 : tie.Need-write64-requires-2 Inv-loop μ-loop
-write64-requires-2 c κs = let q = c .before .before .before .before .before .before .before .before .before .before .before .before .before .loop .inv .room .room in let l = c .before .before .before .before .before .before .before .before .before .before .before .before .loop-test .taken in omega arith
-
-add-i-2 : tie.Need-add-i-2 Inv-loop μ-loop
-add-i-2 c = let l = c .before .before .before .before .before .before .before .before .before .before .before .before .before .before .before .loop-test .taken in omega (arith, c .before .before .before .before .before .before .before .before .before .before .before .before .before .before .before .before .before .before .before .before .before .good .1 .1 .1 .1 .0 .1)
-
-loop-less-2 : tie.Need-loop-less-2 Inv-loop μ-loop
-loop-less-2 c = let l = c .before .before .before .before .before .before .before .before .before .before .before .before .before .before .before .loop-test .taken in omega arith
-
-loop-again-2 : tie.Need-loop-again-2 Inv-loop μ-loop
-loop-again-2 c = placing-there _ _ _ _ _ _ (c .before .before .before .before .before .before .before .before .before .before .before .before .before .before .before .before .loop .inv) (c .before .before .before .before .before .before .before .before .before .before .before .before .before .before .before .loop-test .taken) _ (c .before .before .before .before .before .before .before .before .before .before .before .before .before .before .word-at .ensures) _ _ _ (c .before .before .before .before .before .before .before .before .before .before .before .settle .kept .1 .1 .1 .0) (c .before .before .before .before .before .before .before .before .before .before .before .settle .ensures) _ _ (c .before .before .write642 .ensures) (omega arith) (c .before .before .before .before .before .slot2 .given .1)
-
-enum-known-answer : tie.Need-enum-known-answer Inv-loop μ-loop
-enum-known-answer c = search needs
-
-with-count-requires : tie.Need-with-count-requires Inv-loop μ-loop
-with-count-requires c κs = search needs
-
-same-length : tie.Need-same-length Inv-loop μ-loop
-same-length c = placing-lengths _ _ _ _ _ _ (c .before .before .before .before .before .before .before .before .before .before .before .before .before .loop .inv) (c .before .before .before .before .before .before .before .before .before .before .before .before .loop-test .taken) _ (c .before .before .before .before .before .before .before .before .before .before .before .word-at .ensures) _ _ _ (c .before .before .before .before .before .before .before .before .settle .kept .1 .1 .1 .0) (c .before .before .before .before .before .before .before .before .settle .ensures) .0
-
-same-length-2 : tie.Need-same-length-2 Inv-loop μ-loop
-same-length-2 c = placing-lengths _ _ _ _ _ _ (c .before .before .before .before .before .before .before .before .before .before .before .before .before .loop .inv) (c .before .before .before .before .before .before .before .before .before .before .before .before .loop-test .taken) _ (c .before .before .before .before .before .before .before .before .before .before .before .word-at .ensures) _ _ _ (c .before .before .before .before .before .before .before .before .settle .kept .1 .1 .1 .0) (c .before .before .before .before .before .before .before .before .settle .ensures) .1
-
-same-length-3 : tie.Need-same-length-3 Inv-loop μ-loop
-same-length-3 c = c .before .before .before .before .before .before .before .before .before .before .before .before .before .loop .inv .same-slots
-
-returns : tie.Need-returns Inv-loop μ-loop
-returns c = placed-table _ _ _ _ _ _ _ (c .with-count .ensures) (placing-refused _ _ _ _ _ _ (c .before .before .before .before .before .before .before .before .before .before .before .before .before .loop .inv) (c .before .before .before .before .before .before .before .before .before .before .before .before .loop-test .taken) _ (c .before .before .before .before .before .before .before .before .before .before .before .word-at .ensures) _ _ _ (c .before .before .before .before .before .before .before .before .settle .kept .1 .1 .1 .0) (c .before .before .before .before .before .before .before .before .settle .ensures) _ (c .before .before .answer .given .1))
-
-with-count-requires-2 : tie.Need-with-count-requires-2 Inv-loop μ-loop
-with-count-requires-2 c κs = search needs
-
-same-length-4 : tie.Need-same-length-4 Inv-loop μ-loop
-same-length-4 c = c .before .before .loop .inv .same-words
-
-same-length-5 : tie.Need-same-length-5 Inv-loop μ-loop
-same-length-5 c = c .before .before .loop .inv .placing .same-flags
-
-same-length-6 : tie.Need-same-length-6 Inv-loop μ-loop
-same-length-6 c = c .before .before .loop .inv .same-slots
-
-returns-2 : tie.Need-returns-2 Inv-loop μ-loop
-returns-2 c = placed-table _ _ _ _ _ _ _ (c .with-count2 .ensures) (placing-all _ _ _ _ _ _ (c .before .before .loop .inv) (c .before .loop-test .left))
+returns : tie.Need-returns
+returns c = let h = c .before .before .before .before .before .before .before .before .place-all .ensures in rw (words-valid (c .before .before .before .before .before .before .before .before .before .before .before .before .before .before .before .before .before .before .before .pre .0), identities-in (c .before .before .before .before .before .before .before .before .before .before .before .before .before .before .before .before .before .before .before .pre .1), slots-in (c .before .before .before .before .before .before .before .before .before .before .before .before .before .before .before .before .before .before .before .pre .1), words-after (c .before .before .before .before .before .before .before .before .before .before .before .before .before .before .before .before .before .before .before .pre .0) _ _ (c .before .before .before .before .before .before .before .before .place-all .kept .1 .1 .1 .1 .1 .1 .0), slots-after (c .before .before .before .before .before .before .before .before .before .before .before .before .before .before .before .before .before .before .before .pre .1) _ _ (c .before .before .before .before .before .before .before .before .place-all .kept .1 .1 .1 .1 .1 .1 .1 .1 .0)) at h
 
 pub place-all-spec : {M : Type 1} → statement M
 place-all-spec =
     tie.close
     (tie.spec
-    Inv-loop
-    μ-loop
-    loop-holds
-    word-at-requires
-    settle-requires
-    enum-known-slot
-    mul-write64
-    write64-requires
-    add-count
-    add-i
-    loop-less
-    loop-again
-    enum-known-slot-2
-    mul-write64-2
-    write64-requires-2
-    add-i-2
-    loop-less-2
-    loop-again-2
-    enum-known-answer
-    with-count-requires
+    slice-aggregate-place-all
+    slice-aggregate-place-all-2
+    slice-aggregate-place-all-3
+    place-all-requires
     same-length
     same-length-2
     same-length-3
-    returns
-    with-count-requires-2
-    same-length-4
-    same-length-5
-    same-length-6
-    returns-2)
+    returns)

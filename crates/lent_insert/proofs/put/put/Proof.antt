@@ -1,23 +1,14 @@
--- `lent_insert::put::put` meets its contract. One law for each answer of the search; the vacancy lies in both buffers by a law of the path. Assumes nothing.
-use mathlib.Core.Path.{sym, _∙_}
-use native.Mathlib.Omega.{arith}
-use Rattle.funnel.specs.InsertLaws.{insert-range, insert-duplicate, insert-spent-vacant, insert-spent-full, insert-full, insert-inserted}
-use Rattle.lent_insert.specs.PutLaws.{vacant-lent, done-lent}
+-- `lent_insert::put::put` meets its contract. The engine with bytes lent. Assumes nothing.
+use Rattle.lent_search.specs.EdgeLaws.{words-valid, valid-in, words-after}
 use borrow.Author.Needs.{needs}
 use Rattle.lent_insert.proofs.put.put.Statement.{statement}
 use Rattle.lent_insert.proofs.put.put.Tie as tie
 
-find-requires : tie.Need-find-requires
-find-requires c κs = search needs
+slice-aggregate-put : tie.Need-slice-aggregate-put
+slice-aggregate-put c = search needs
 
-enum-known-probes : tie.Need-enum-known-probes
-enum-known-probes c = search needs
-
-enum-known-refusal : tie.Need-enum-known-refusal
-enum-known-refusal c = search needs
-
-enum-known-probes-2 : tie.Need-enum-known-probes-2
-enum-known-probes-2 c = search needs
+put-requires : tie.Need-put-requires
+put-requires c κs = (valid-in (c .before .before .before .before .before .pre .0), c .before .before .before .before .before .pre .1)
 
 same-length : tie.Need-same-length
 same-length c = search needs
@@ -26,98 +17,7 @@ same-length-2 : tie.Need-same-length-2
 same-length-2 c = search needs
 
 returns : tie.Need-returns
-returns c = insert-spent-full _ _ _ _ _ _ (c .if1 .taken) _ (sym (c .before .before .before .before .find .ensures) ∙ c .before .before .probes2 .given .1)
-
-enum-known-probes-3 : tie.Need-enum-known-probes-3
-enum-known-probes-3 c = search needs
-
-same-length-3 : tie.Need-same-length-3
-same-length-3 c = search needs
-
-same-length-4 : tie.Need-same-length-4
-same-length-4 c = search needs
-
-returns-2 : tie.Need-returns-2
-returns-2 c = insert-spent-vacant _ _ _ _ _ _ (c .if2 .taken) _ _ (sym (c .before .before .before .before .find .ensures) ∙ c .before .before .probes3 .given .1)
-
-slot-of-requires : tie.Need-slot-of-requires
-slot-of-requires c κs = search needs
-
-mul-write64 : tie.Need-mul-write64
-mul-write64 c = let l = vacant-lent (c .before .before .before .before .before .before .before .before .before .before .before .pre .0) _ _ _ (sym (c .before .before .before .before .before .before .find .ensures) ∙ c .before .before .before .before .probes3 .given .1) in let s = c .before .slot-of .ensures in omega arith
-
-write64-requires : tie.Need-write64-requires
-write64-requires c κs = let l = vacant-lent (c .before .before .before .before .before .before .before .before .before .before .before .pre .0) _ _ _ (sym (c .before .before .before .before .before .before .find .ensures) ∙ c .before .before .before .before .probes3 .given .1) in let s = c .before .slot-of .ensures in omega arith
-
-slice-write-flags : tie.Need-slice-write-flags
-slice-write-flags c = let l = vacant-lent (c .before .before .before .before .before .before .before .before .before .before .before .before .before .before .pre .0) _ _ _ (sym (c .before .before .before .before .before .before .before .before .before .find .ensures) ∙ c .before .before .before .before .before .before .before .probes3 .given .1) in let s = c .before .before .before .before .slot-of .ensures in omega arith
-
-same-length-5 : tie.Need-same-length-5
-same-length-5 c = search needs
-
-same-length-6 : tie.Need-same-length-6
-same-length-6 c = search needs
-
-returns-3 : tie.Need-returns-3
-returns-3 c = insert-duplicate _ _ _ _ _ _ _ _ (sym (c .before .before .before .find .ensures) ∙ c .before .probes .given .1)
-
-same-length-7 : tie.Need-same-length-7
-same-length-7 c = search needs
-
-same-length-8 : tie.Need-same-length-8
-same-length-8 c = search needs
-
-returns-4 : tie.Need-returns-4
-returns-4 c = insert-range _ _ _ _ _ _ _ (sym (c .before .before .before .find .ensures) ∙ c .before .refusal .given .1)
-
-same-length-9 : tie.Need-same-length-9
-same-length-9 c = search needs
-
-same-length-10 : tie.Need-same-length-10
-same-length-10 c = search needs
-
-returns-5 : tie.Need-returns-5
-returns-5 c = insert-full _ _ _ _ _ _ (c .if1 .left) _ (sym (c .before .before .before .before .find .ensures) ∙ c .before .before .probes2 .given .1)
-
-same-length-11 : tie.Need-same-length-11
-same-length-11 c = search needs
-
-same-length-12 : tie.Need-same-length-12
-same-length-12 c = search needs
-
-returns-6 : tie.Need-returns-6
-returns-6 c = let l = vacant-lent (c .before .before .before .before .before .before .before .before .before .before .before .before .before .before .pre .0) _ _ _ (sym (c .before .before .before .before .before .before .before .before .before .find .ensures) ∙ c .before .before .before .before .before .before .before .probes3 .given .1) in
-    let s = c .before .before .before .before .slot-of .ensures in
-    done-lent _ _ _ _ _ _ _ _ (c .before .before .write64 .ensures) (omega arith) (omega arith) (insert-inserted _ _ _ _ _ _ (c .before .before .before .before .before .if2 .left) _ _ _ (sym (c .before .before .before .before .before .before .before .before .before .find .ensures) ∙ c .before .before .before .before .before .before .before .probes3 .given .1) (c .before .before .before .before .slot-of .ensures))
+returns c = let h = c .before .before .before .before .before .put .ensures in rw (words-valid (c .before .before .before .before .before .before .before .before .before .before .before .pre .0), words-after (c .before .before .before .before .before .before .before .before .before .before .before .pre .0) _ _ (c .before .before .before .before .before .put .kept .1 .1 .1 .1 .1 .1 .0)) at h
 
 pub put-spec : {M : Type 1} → statement M
-put-spec =
-    tie.close
-    (tie.spec
-    find-requires
-    enum-known-probes
-    enum-known-refusal
-    enum-known-probes-2
-    same-length
-    same-length-2
-    returns
-    enum-known-probes-3
-    same-length-3
-    same-length-4
-    returns-2
-    slot-of-requires
-    mul-write64
-    write64-requires
-    slice-write-flags
-    same-length-5
-    same-length-6
-    returns-3
-    same-length-7
-    same-length-8
-    returns-4
-    same-length-9
-    same-length-10
-    returns-5
-    same-length-11
-    same-length-12
-    returns-6)
+put-spec = tie.close (tie.spec slice-aggregate-put put-requires same-length same-length-2 returns)
