@@ -34,6 +34,7 @@ numberOf name.Disorder = 23
 numberOf name.Image = 24
 numberOf name.Foreign = 25
 numberOf name.Room = 26
+numberOf name.None = 27
 
 -- "Order: 1 to 7 by number"
 unfoldable pub nameOf : Gate → Name

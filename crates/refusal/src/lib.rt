@@ -35,6 +35,7 @@ pub enum Name {
     Image,
     Foreign,
     Room,
+    None,
 }
 
 // The refusals that are tested first, in this order, by every call on a table.
@@ -99,5 +100,6 @@ pub fn number(name: Name) -> u64
         Name::Image => 24,
         Name::Foreign => 25,
         Name::Room => 26,
+        Name::None => 27,
     }
 }

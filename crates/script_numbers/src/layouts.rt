@@ -83,7 +83,7 @@ fn funnel_of(n: u64, e: u32, out: &mut [u8], at: usize) -> usize {
     }
 }
 
-fn put_funnel(plan: FunnelPlan, counts: &[u64; 118], out: &mut [u8], at: usize) -> usize {
+pub fn put_funnel(plan: FunnelPlan, counts: &[u64; 118], out: &mut [u8], at: usize) -> usize {
     let row = [
         plan.alpha,
         plan.beta,

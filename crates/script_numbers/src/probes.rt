@@ -3,6 +3,8 @@ use crate::draws::draw;
 use crate::phi::bounded;
 use crate::phi::coordinates;
 use crate::phi::position;
+use crate::smallest;
+use crate::smallest::minimum;
 use elastic_probe::budget::Budgeted;
 use elastic_probe::budget::budget;
 use probe::mix::mix64;
@@ -25,8 +27,15 @@ const PHINV: u64 = 0x1_50_4849_4E56;
 
 const BUD: u64 = 0x1_42_5544;
 
+const SN: u64 = 0x1_534E;
+
+const MS: u64 = 0x1_4D53;
+
 // The answer to a command by the number of its word.
 pub fn command(key: u64, line: &[u8], args: usize, out: &mut [u8], at: usize) -> usize {
+    if key == SN {
+        return smallest::command(line, args, out, at);
+    }
     put_said(answer(key, line, args), out, at)
 }
 
@@ -57,6 +66,8 @@ fn arity(key: u64) -> usize {
         0x1_4D_4958 => 1,
         // PHB
         0x1_50_4842 => 2,
+        // MS
+        0x1_4D53 => 2,
         // EP
         0x1_4550 => 3,
         // FP
@@ -81,6 +92,9 @@ fn of_numbers(key: u64, a: [u64; 7]) -> Said {
     }
     if key == PHB {
         return bounded(a[0], a[1]);
+    }
+    if key == MS {
+        return minimum(a[0], a[1]);
     }
     if key == BUD {
         return budgeted(a[0], a[1], a[2], a[3]);

@@ -83,6 +83,9 @@ enum-told-25 c = search needs
 enum-told-26 : tie.Need-enum-told-26
 enum-told-26 c = search needs
 
+enum-told-27 : tie.Need-enum-told-27
+enum-told-27 c = search needs
+
 returns : tie.Need-returns
 unfolding numberOf
 returns c = sym (ap numberOf (c .enum-told .given .1))
@@ -187,6 +190,10 @@ returns-26 : tie.Need-returns-26
 unfolding numberOf
 returns-26 c = sym (ap numberOf (c .enum-told26 .given .1))
 
+returns-27 : tie.Need-returns-27
+unfolding numberOf
+returns-27 c = sym (ap numberOf (c .enum-told27 .given .1))
+
 pub number-spec : {M : Type 1} → statement M
 number-spec =
     tie.close
@@ -217,6 +224,7 @@ number-spec =
     enum-told-24
     enum-told-25
     enum-told-26
+    enum-told-27
     returns
     returns-2
     returns-3
@@ -242,4 +250,5 @@ number-spec =
     returns-23
     returns-24
     returns-25
-    returns-26)
+    returns-26
+    returns-27)

@@ -1,0 +1,12 @@
+pub mod Slots
+pub mod SlotsLaws
+pub mod Layouts
+pub mod LayoutsLaws
+pub mod Minimum
+pub mod MinimumLaws
+pub mod Turns
+pub mod TurnsLaws
+pub mod Search
+pub mod SearchLaws
+pub mod Smallest
+pub mod SmallestLaws
