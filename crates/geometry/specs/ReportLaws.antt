@@ -28,7 +28,7 @@ refuse-report : (t : Bool) (g : Gate) (n : Name) (later : Gated) (x : Report) �
 refuse-report true g n later x named said = ap (λ m. refused m []) named
 refuse-report false g n later x named said = said
 
--- "1 N, 2 ZEROEXP, 3 SIZE", then what the later tests report
+-- N (1), ZEROEXP (2), SIZE (3), then what the later tests report
 pub config-report : (n e : ℕ) (later : Gated) → gatedReport (configThen n e later)
     ≡ pick (ltb n 2) (refused name.N [])
     (pick (eqb e 0) (refused name.ZeroExp [])
@@ -38,7 +38,7 @@ config-report n e later =
     refuse-report (ltb n 2) gate.N name.N _ _ refl
     (refuse-report (eqb e 0) gate.ZeroExp name.ZeroExp _ _ refl (refuse-report (ltb 4294967296 n) gate.Size name.Size _ _ refl refl))
 
--- then "4 EXPONENT, 5 LAYOUT" for a funnel
+-- then EXPONENT (4) and LAYOUT (5) for a funnel
 pub funnel-gate-report : (n e : ℕ) → gatedReport (funnelGate n e)
     ≡ pick (ltb n 2) (refused name.N [])
     (pick (eqb e 0) (refused name.ZeroExp [])
