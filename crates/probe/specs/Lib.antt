@@ -6,6 +6,7 @@ pub mod Word
 pub mod WordLaws
 pub mod Range
 pub mod RangeLaws
+pub mod ShiftLaws
 pub mod Uniform
 pub mod ReportLaws
 pub mod Vectors

@@ -78,7 +78,7 @@ pub reduce-none : (inner outer base u used n : ℕ) → n ≡ 0 → allRejected 
 unfolding reduceOf wordsAt
 reduce-none inner outer base u used n e = rw e
 
--- ---- a draw: no words, the first, the others
+-- ---- a draw: no words, the first
 
 pub draw-none : (inner outer base u cap : ℕ) → cap ≡ 0 → allRejected 0 ≡ drawOf inner outer base u cap
 unfolding drawOf
@@ -91,10 +91,6 @@ module _ (inner outer base u cap word low : ℕ) (t : Bool) (more : cap ≡ 0 �
   pub draw-first : (high : ℕ) → t ≡ true → high ≡ word * u / 2 ^ 64 → Index high 1 ≡ drawOf inner outer base u cap
   unfolding drawOf
   draw-first high h e = reduce-accept inner outer base u 0 cap word low t (omega arith) is half test high h e
-
-  pub draw-others : (r : Drawn) → t ≡ false → r ≡ reduceOf (wordsAt inner outer (base + 1) (cap - 1)) u 1 → r ≡ drawOf inner outer base u cap
-  unfolding drawOf
-  draw-others r h e = e ∙ reduce-reject inner outer base u 0 cap word low t (omega arith) is half test h
 
 -- a first word whose low half is at least u is accepted without 2^64 mod u, and its high half is the index
 pub first-index : (inner outer base u word low high : ℕ) → 0 < u → word ≡ wordOf inner outer base → low ≡ word * u % 2 ^ 64 → u ≤ low → high ≡ word * u / 2 ^ 64
@@ -109,31 +105,34 @@ first-none inner outer base u = record { first = λ l cap some. absurd (omega (a
 
 -- ---- a loop over the words: what is left gives what the whole gives
 
-pub record Redrawn (inner outer base u cap used : ℕ) : Type 0 where
-  pub from : 0 < used
+pub record Drawing (inner outer base u cap used : ℕ) : Type 0 where
   pub most : used ≤ cap
-  pub rest : reduceOf (wordsAt inner outer (base + used) (cap - used)) u used ≡ reduceOf (wordsAt inner outer (base + 1) (cap - 1)) u 1
+  pub rest : reduceOf (wordsAt inner outer (base + used) (cap - used)) u used ≡ drawOf inner outer base u cap
 
-pub redrawn-none : (inner outer base u cap : ℕ) → 0 < cap → Redrawn inner outer base u cap 1
-redrawn-none inner outer base u cap h = record { from = omega arith; most = omega arith; rest = refl }
+pub drawing-none : (inner outer base u cap : ℕ) → Drawing inner outer base u cap 0
+unfolding drawOf
+drawing-none inner outer base u cap =
+    let b : base + 0 ≡ base = omega arith in
+    let n : cap - 0 ≡ cap = omega arith in
+    record { most = omega arith; rest = rw (b, n) }
 
-module _ (inner outer base u cap used : ℕ) (r : Redrawn inner outer base u cap used) where
-  pub redrawn-end : cap ≤ used → allRejected used ≡ reduceOf (wordsAt inner outer (base + 1) (cap - 1)) u 1
-  redrawn-end h = reduce-none inner outer (base + used) u used (cap - used) (omega arith) ∙ r .rest
+module _ (inner outer base u cap used : ℕ) (r : Drawing inner outer base u cap used) where
+  pub drawing-end : cap ≤ used → allRejected used ≡ drawOf inner outer base u cap
+  drawing-end h = reduce-none inner outer (base + used) u used (cap - used) (omega arith) ∙ r .rest
 
   module _ (word low : ℕ) (t : Bool) (more : used < cap)
       (is : word ≡ wordOf inner outer (base + used))
       (half : low ≡ word * u % 2 ^ 64)
       (test : t ≡ leb (2 ^ 64 % u) low) where
-    pub redrawn-accept : (high : ℕ) → t ≡ true → high ≡ word * u / 2 ^ 64 → Index high (used + 1) ≡ reduceOf (wordsAt inner outer (base + 1) (cap - 1)) u 1
-    redrawn-accept high h e = reduce-accept inner outer (base + used) u used (cap - used) word low t (omega arith) is half test high h e ∙ r .rest
+    pub drawing-accept : (high : ℕ) → t ≡ true → high ≡ word * u / 2 ^ 64 → Index high (used + 1) ≡ drawOf inner outer base u cap
+    drawing-accept high h e = reduce-accept inner outer (base + used) u used (cap - used) word low t (omega arith) is half test high h e ∙ r .rest
 
-    pub redrawn-more : t ≡ false → Redrawn inner outer base u cap (used + 1)
-    redrawn-more h =
+    pub drawing-more : t ≡ false → Drawing inner outer base u cap (used + 1)
+    drawing-more h =
         let b : base + used + 1 ≡ base + (used + 1) = omega arith in
         let n : cap - used - 1 ≡ cap - (used + 1) = omega arith in
         let e = reduce-reject inner outer (base + used) u used (cap - used) word low t (omega arith) is half test h in
-        record { from = omega arith; most = omega arith; rest = rw (b, n) at e ∙ r .rest }
+        record { most = omega arith; rest = rw (b, n) at e ∙ r .rest }
 
 -- ---- bounds
 

@@ -1,8 +1,9 @@
 // Reduction of words to an index below a number of values, without bias.
 ghost use mathlib.Core.Path.{_≡_};
-ghost use Prim.Native.Nat.{_+_, _-_, _*_, _%_, _^_, _<_, _≤_};
-ghost use lib.Dec.{leb};
-ghost use Rattle.probe.specs.Range.{wordsAt, reduceOf, drawOf, FirstIndex, reducedOf, elasticReduceOf, funnelReduceOf};
+ghost use Prim.Native.Nat.{_+_, _-_, _*_, _/_, _%_, _^_, _<_, _≤_};
+ghost use lib.Count.{trailingZeros};
+ghost use lib.Dec.{eqb, leb};
+ghost use Rattle.probe.specs.Range.{drawOf, FirstIndex, reducedOf, elasticReduceOf, funnelReduceOf};
 use crate::counter::Domain;
 use crate::counter::ELASTIC_LEVELS;
 use crate::counter::ELASTIC_PROBES;
@@ -90,12 +91,8 @@ pub fn funnel_reduce(
     if FUNNEL_WORDS < cap {
         return Reduced::Counter;
     }
-    answer(funnel_draw(
-        funnel_key(seed, identity),
-        funnel_base(domain, probe),
-        upper,
-        cap,
-    ))
+    let key = funnel_key(seed, identity);
+    answer(draw(key.inner, key.outer, funnel_base(domain, probe), upper, cap))
 }
 
 // A draw's answer as the bare reduction gives it.
@@ -116,12 +113,13 @@ pub fn elastic_draw(key: u64, base: u64, upper: u64, cap: u64) -> Drawn
     draw(key, key, base, upper, cap)
 }
 
-// The core for the funnel table: key is the identity's, base a counter with retry 0.
+// The core for the funnel table: key is the identity's, base a counter with retry 0. Its lengths are seldom powers of two, so it keeps the
+// product and asks nothing of the length.
 pub fn funnel_draw(key: FunnelKey, base: u64, upper: u64, cap: u64) -> Drawn
     requires { ⌜ (0 < upper) × (base + cap ≤ 2 ^ 64) ⌝ }
     ensures { λ r. ⌜ r ≡ drawOf (key .inner) (key .outer) base upper cap ⌝ }
 {
-    draw(key.inner, key.outer, base, upper, cap)
+    draw_scaled(key.inner, key.outer, base, upper, cap)
 }
 
 // The index that the first word gives where it is accepted at once, else upper. For loops that leave the rest to `funnel_draw`.
@@ -136,7 +134,8 @@ pub fn first_index(key: FunnelKey, base: u64, upper: u64) -> u64
     multiply_high(word, upper)
 }
 
-// The first word alone decides nearly always, so it stands before the loop.
+// For a power of two no word is rejected, and the top bits of the first are the index: "count the trailing zeros of the length, shift, and
+// form no product".
 fn draw(inner: u64, outer: u64, base: u64, upper: u64, cap: u64) -> Drawn
     requires { ⌜ (0 < upper) × (base + cap ≤ 2 ^ 64) ⌝ }
     ensures { λ r. ⌜ r ≡ drawOf inner outer base upper cap ⌝ }
@@ -144,22 +143,36 @@ fn draw(inner: u64, outer: u64, base: u64, upper: u64, cap: u64) -> Drawn
     if cap == 0 {
         return Drawn::Refused(RangeRefusal { words: 0 });
     }
-    let word = keyed_word(inner, outer, base);
-    if accepts(multiply(word, upper), upper) {
-        return Drawn::Index {
-            index: multiply_high(word, upper),
-            words: 1,
-        };
+    if is_power(upper) {
+        let word = keyed_word(inner, outer, base);
+        let index = top_bits(word, u64::trailing_zeros(upper) as u64);
+        return Drawn::Index { index, words: 1 };
     }
-    redraw(inner, outer, base, upper, cap)
+    draw_scaled(inner, outer, base, upper, cap)
 }
 
-// The words after the first.
-fn redraw(inner: u64, outer: u64, base: u64, upper: u64, cap: u64) -> Drawn
-    requires { ⌜ (0 < upper) × (base + cap ≤ 2 ^ 64) × (0 < cap) ⌝ }
-    ensures { λ r. ⌜ r ≡ reduceOf (wordsAt inner outer (base + 1) (cap - 1)) upper 1 ⌝ }
+// Whether u is a 1 shifted by its trailing zeros. In a function of its own three instructions are made of this.
+fn is_power(u: u64) -> bool
+    requires { ⌜ 0 < u ⌝ }
+    ensures { λ r. ⌜ r ≡ eqb (2 ^ trailingZeros 64 u) u ⌝ }
 {
-    let mut used = 1;
+    1 << u64::trailing_zeros(u) as u64 == u
+}
+
+// So many top bits of a word. "Length 1 gives 0": no bits are left, and since no shift takes all 64 away there are two.
+fn top_bits(word: u64, bits: u64) -> u64
+    requires { ⌜ bits < 64 ⌝ }
+    ensures { λ r. ⌜ r ≡ word / 2 ^ (64 - bits) ⌝ }
+{
+    word >> 1 >> (63 - bits)
+}
+
+// Word after word, until one is accepted: the high half of its product with upper is the index.
+fn draw_scaled(inner: u64, outer: u64, base: u64, upper: u64, cap: u64) -> Drawn
+    requires { ⌜ (0 < upper) × (base + cap ≤ 2 ^ 64) ⌝ }
+    ensures { λ r. ⌜ r ≡ drawOf inner outer base upper cap ⌝ }
+{
+    let mut used = 0;
     while used < cap {
         let word = keyed_word(inner, outer, base + used);
         used += 1;

@@ -27,8 +27,8 @@ funnel-key-requires c κs = search needs
 funnel-base-requires : tie.Need-funnel-base-requires
 funnel-base-requires c κs = (domain-below (c .before .before .before .before .before .before .before .args .domain) _ (c .before .before .before .before .before .domain-fits .ensures) (c .before .before .before .before .if2 .left), omega arith)
 
-funnel-draw-requires : tie.Need-funnel-draw-requires
-funnel-draw-requires c κs = let a = c .before .before .before .before .before .before .before .before .args in
+draw-requires : tie.Need-draw-requires
+draw-requires c κs = let a = c .before .before .before .before .before .before .before .before .args in
     let h = domain-below (a .domain) _ (c .before .before .before .before .before .before .domain-fits .ensures) (c .before .before .before .before .before .if2 .left) in
     (omega arith, omega (arith, c .funnel-base .ensures, funnel-fits (a .domain) (a .probe .0) h (omega arith) (a .cap) (omega arith)))
 
@@ -38,7 +38,7 @@ answer-requires c κs = search needs
 returns-5 : tie.Need-returns-5
 returns-5 c = let a = c .before .before .before .before .before .before .before .before .before .before .args in
     let h = domain-below (a .domain) _ (c .before .before .before .before .before .before .before .before .domain-fits .ensures) (c .before .before .before .before .before .before .before .if2 .left) in
-    funnel-answer (a .seed) (a .identity) (a .domain) (a .probe .0) (a .upper) (a .cap) (c .before .before .before .before .before .before .before .before .before .if1 .left) h (omega arith) (omega arith) _ _ _ _ _ (c .before .before .before .funnel-key .ensures .0) (c .before .before .before .funnel-key .ensures .1) (c .before .before .funnel-base .ensures) (c .before .funnel-draw .ensures) (c .answer .ensures)
+    funnel-answer (a .seed) (a .identity) (a .domain) (a .probe .0) (a .upper) (a .cap) (c .before .before .before .before .before .before .before .before .before .if1 .left) h (omega arith) (omega arith) _ _ _ _ _ (c .before .before .before .funnel-key .ensures .0) (c .before .before .before .funnel-key .ensures .1) (c .before .before .funnel-base .ensures) (c .before .draw .ensures) (c .answer .ensures)
 
 pub funnel-reduce-spec : {M : Type 1} → statement M
 funnel-reduce-spec =
@@ -51,6 +51,6 @@ funnel-reduce-spec =
     returns-4
     funnel-key-requires
     funnel-base-requires
-    funnel-draw-requires
+    draw-requires
     answer-requires
     returns-5)
