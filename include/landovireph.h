@@ -80,7 +80,7 @@ enum landovireph_refusal {
     LANDOVIREPH_BUDGET = 14,
     LANDOVIREPH_DUPLICATE = 15, /* the identity is in the table: its place is in the answer */
     LANDOVIREPH_EXHAUSTED = 16, /* the table holds its maximum, n - floor(n / 2^e), or more */
-    LANDOVIREPH_SCHEDULE = 17,  /* elastic: both active levels are low, as only a made-up state has them */
+    LANDOVIREPH_SCHEDULE = 17,  /* elastic: both active levels are low, as only a made-up state has them (below) */
     LANDOVIREPH_SEARCH = 18,    /* elastic: the search cap is used up */
     LANDOVIREPH_POSITION = 19,  /* elastic: the position is above the position cap */
     LANDOVIREPH_FULL = 20,      /* funnel: no slot on the identity's path is vacant, and none holds it */
