@@ -363,7 +363,8 @@ uint64_t landovireph_elastic_open(uint64_t n, uint32_t e, uint64_t seed, uint64_
  * Enters an identity: writes one word, its flag, the count and the count of its level. Answers the case, batch, free slots and
  * budget, the place (level, within, slot), the paper probe and, as position, phi.
  * Refusals: 1 to 3, 6, 7; DUPLICATE with slot, the smallest that holds it; EXHAUSTED; SCHEDULE; RANGE with words or SEARCH, as
- * the steps meet them; POSITION.
+ * the steps meet them; POSITION. A table that was opened and changed by insertions alone never answers SCHEDULE: that is proved,
+ * in crates/elastic_laws/specs/Never.antt.
  */
 uint64_t landovireph_elastic_insert(uint8_t *state, size_t state_bytes,
                                     uint8_t *words, size_t words_bytes,
