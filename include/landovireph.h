@@ -80,7 +80,7 @@ enum landovireph_refusal {
     LANDOVIREPH_BUDGET = 14,
     LANDOVIREPH_DUPLICATE = 15, /* the identity is in the table: its place is in the answer */
     LANDOVIREPH_EXHAUSTED = 16, /* the table holds its maximum, n - floor(n / 2^e), or more */
-    LANDOVIREPH_SCHEDULE = 17,  /* elastic: both active levels are low, as only a made-up state has them */
+    LANDOVIREPH_SCHEDULE = 17,  /* elastic: both active levels are low, as only a made-up state has them (below) */
     LANDOVIREPH_SEARCH = 18,    /* elastic: the search cap is used up */
     LANDOVIREPH_POSITION = 19,  /* elastic: the position is above the position cap */
     LANDOVIREPH_FULL = 20,      /* funnel: no slot on the identity's path is vacant, and none holds it */
@@ -363,7 +363,8 @@ uint64_t landovireph_elastic_open(uint64_t n, uint32_t e, uint64_t seed, uint64_
  * Enters an identity: writes one word, its flag, the count and the count of its level. Answers the case, batch, free slots and
  * budget, the place (level, within, slot), the paper probe and, as position, phi.
  * Refusals: 1 to 3, 6, 7; DUPLICATE with slot, the smallest that holds it; EXHAUSTED; SCHEDULE; RANGE with words or SEARCH, as
- * the steps meet them; POSITION.
+ * the steps meet them; POSITION. A table that was opened and changed by insertions alone never answers SCHEDULE: that is proved,
+ * in crates/elastic_laws/specs/Never.antt.
  */
 uint64_t landovireph_elastic_insert(uint8_t *state, size_t state_bytes,
                                     uint8_t *words, size_t words_bytes,
