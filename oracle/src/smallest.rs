@@ -1,8 +1,8 @@
 //! SN and MS: the smallest funnel table for a count, which the Rust does not have, and the Rust's own lower bound on layouts.
 //!
-//! Up to 65,536 slots the Rust's plans are asked n by n. No machine does that to 2^32, so above it a model goes through special
+//! Up to 20,000 slots the Rust's plans are asked n by n. No machine does that to 2^32, so above it a model goes through special
 //! lengths instead: for each length it says which n can have it, and the smallest of these is the answer. The model is held
-//! against the Rust wherever that can be done: on every question up to 65,536 slots, and above it by the Rust's own plan at the
+//! against the Rust wherever that can be done: on every question up to 20,000 slots, and above it by the Rust's own plan at the
 //! answer and at the n before it, and where there is none, at the last n of the range. Where they disagree the answer is `PANIC`.
 
 use std::cell::RefCell;
@@ -13,7 +13,7 @@ use crate::exact::geometry::{PaperConfig, funnel_minimum_slots};
 use crate::rules::{Refused, refusal};
 
 /// Up to here every n is asked.
-const ASKED: u64 = 65_536;
+const ASKED: u64 = 20_000;
 
 /// So many n below an answer are asked.
 const BEFORE: u64 = 300;
@@ -71,7 +71,7 @@ fn rust_layout(n: u64, e: u32) -> bool {
     PaperConfig::new(n as usize, e).is_ok_and(|config| config.funnel_plan().is_ok())
 }
 
-/// The answer up to 65,536 slots, by what the Rust says of each n; of an exponent that comes up often it is asked once.
+/// The answer up to 20,000 slots, by what the Rust says of each n; of an exponent that comes up often it is asked once.
 fn asked(count: u64, e: u32, first: u64, last: u64) -> Option<u64> {
     thread_local! {
         static SAID: RefCell<BTreeMap<u32, Vec<bool>>> = const { RefCell::new(BTreeMap::new()) };
@@ -106,8 +106,7 @@ fn enough(count: u64, e: u32, first: u64, last: u64) -> Option<u64> {
 }
 
 /// The smallest n of a range with a special length, by going through the lengths in turn: for each g, from the smallest length
-/// that an n from `start` on may have. A longer length asks for no smaller n, so it ends where a length asks for a larger n than
-/// the best so far.
+/// that an n from `start` on may have.
 fn by_lengths(e: u32, start: u64, last: u64) -> Option<u64> {
     let mut best = None;
     for (g, from, to) in [(1, 2, 4), (2, 5, 16), (3, 17, 256), (4, 257, 65_536), (5, 65_537, 1 << 32)] {
@@ -131,8 +130,10 @@ fn of_one_g(e: u32, g: u64, from: u64, to: u64) -> Option<u64> {
     // A length is 4g times k, or one more.
     let mut k = (from.div_ceil(half) / (4 * g)).max(1);
     loop {
-        let reached = (4 * g * k * quarter).div_ceil(3);
-        if reached > best.unwrap_or(to) {
+        // It ends where a length asks for a larger n than the best so far. A longer length asks for no smaller n with the same remainder by
+        // beta, so it ends too where beta lengths in turn have been tried that are long enough for the best.
+        let bound = best.unwrap_or(to);
+        if (4 * g * k * quarter).div_ceil(3) > bound || 4 * g * k > bound.div_ceil(half) + 4 * g * (beta + 1) {
             return best.map(|n| n as u64);
         }
         for s in [4 * g * k, 4 * g * k + 1] {
