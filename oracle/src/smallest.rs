@@ -3,7 +3,8 @@
 //! Up to 20,000 slots the Rust's plans are asked n by n. No machine does that to 2^32, so above it a model goes through special
 //! lengths instead: for each length it says which n can have it, and the smallest of these is the answer. The model is held
 //! against the Rust wherever that can be done: on every question up to 20,000 slots, and above it by the Rust's own plan at the
-//! answer and at the n before it, and where there is none, at the last n of the range. Where they disagree the answer is `PANIC`.
+//! answer and at every n of the range before it, if these are not more than 20,000, else at 300 of them; where there is none, at the last
+//! n of the range. Where they disagree the answer is `PANIC`.
 
 use std::cell::RefCell;
 use std::collections::BTreeMap;
@@ -15,7 +16,7 @@ use crate::rules::{Refused, refusal};
 /// Up to here every n is asked.
 const ASKED: u64 = 20_000;
 
-/// So many n below an answer are asked.
+/// So many n before an answer are asked, where there are too many to ask all.
 const BEFORE: u64 = 300;
 
 /// "first below 2 is N, last above 2^32 is SIZE, e as in document 01": by number, and then 27.
@@ -52,9 +53,9 @@ fn found(count: u64, e: u32, first: u64, last: u64) -> Result<Option<u64>, Refus
         asked == by_lengths
     } else {
         let to = by_lengths.unwrap_or(last + 1);
-        let near = first.max(to.saturating_sub(BEFORE)).max(2)..to;
-        by_lengths.is_none_or(|n| takes(count, e, n) && rust_layout(n, e))
-            && !near.into_iter().any(|n| takes(count, e, n) && rust_layout(n, e))
+        let start = enough(count, e, first, last).unwrap_or(to);
+        let near = if to - start <= ASKED { start } else { to - BEFORE };
+        by_lengths.is_none_or(|n| takes(count, e, n) && rust_layout(n, e)) && !(near..to).any(|n| rust_layout(n, e))
     };
     if agreed {
         Ok(by_lengths)
