@@ -8,6 +8,8 @@ use Rattle.words.specs.Pick.{pick}
 use Rattle.funnel.specs.declared.table.FunnelTable.{FunnelTable}
 use Rattle.funnel.specs.declared.table.Insertion.{Insertion}
 use Rattle.funnel.specs.declared.table.Insertion.the-variants as insertion
+use Rattle.funnel.specs.declared.table.Search.{Search}
+use Rattle.funnel.specs.declared.table.Search.the-variants as search
 use Rattle.funnel.specs.Path.{slotOf}
 use Rattle.funnel.specs.Insert.{withCount, insertOf}
 use Rattle.audit.specs.declared.slots.First.{First}
@@ -39,6 +41,13 @@ intoPlaced table counts words marks placed identity = insertOf (withCount table 
 unfoldable pub ready : FunnelTable → (counts words flags marks : List ℕ) (placed slot : ℕ) → Bool
 ready table counts words flags marks placed slot =
     pick (unplaced flags marks slot) (insertedAt slot (intoPlaced table counts words marks placed (getD words slot 0))) false
+
+-- whether a search ended vacant at a slot: with room for one more, this is readiness
+abbrev pub vacantAt : ℕ → Search → Bool
+vacantAt slot (search.Hit probes place) = false
+vacantAt slot (search.Vacant probes place) = eqb (slotOf place) slot
+vacantAt slot (search.Full probes) = false
+vacantAt slot (search.Range refusal) = false
 
 -- what has been taken: the marks, the order so far, and how many
 pub record Taken : Type 0 where

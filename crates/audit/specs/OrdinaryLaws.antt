@@ -16,8 +16,8 @@ use Rattle.funnel.specs.PathLaws.{join-every, levels-rising, primary-between, f
 use Rattle.funnel.specs.Search.{look, walkOf, searchOf, tablePath, findOf}
 use Rattle.funnel.specs.Every.{Every, Rising, Between}
 use Rattle.funnel.specs.EveryLaws.{every-append, every-map, rising-between}
-use Rattle.audit.specs.Greedy.{ready, unplaced}
-use Rattle.audit.specs.ReadyLaws.{vacantAt, unplaced-facts, ready-placed, ready-exhausted, ready-by}
+use Rattle.audit.specs.Greedy.{ready, unplaced, vacantAt}
+use Rattle.audit.specs.ReadyLaws.{unplaced-facts, ready-placed, ready-exhausted, ready-by}
 
 -- every slot is above s
 abbrev Above : ℕ → List Place → Type 0

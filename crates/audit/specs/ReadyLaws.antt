@@ -19,7 +19,7 @@ use Rattle.funnel.specs.Search.{findOf}
 use Rattle.funnel.specs.Stop.{HitAt, VacantAt, StopsAt}
 use Rattle.funnel.specs.InsertLaws.{find-count}
 use Rattle.funnel.specs.Insert.{withCount, insertBy, insertOf}
-use Rattle.audit.specs.Greedy.{unplaced, insertedAt, intoPlaced, ready}
+use Rattle.audit.specs.Greedy.{unplaced, insertedAt, intoPlaced, ready, vacantAt}
 
 -- ---- occupied and not placed
 
@@ -49,13 +49,6 @@ module _ (flags marks : List ℕ) (s : ℕ) where
       go false q e = (eqb-false _ _ q, eqb-true _ _ e)
 
 -- ---- readiness by the search
-
--- whether a search ended vacant at a slot
-abbrev pub vacantAt : ℕ → Search → Bool
-vacantAt s (search.Hit probes place) = false
-vacantAt s (search.Vacant probes place) = eqb (slotOf place) s
-vacantAt s (search.Full probes) = false
-vacantAt s (search.Range refusal) = false
 
 -- as the code finds it
 pub ends-found : (s : ℕ) (r x y : Search) → r ≡ y → r ≡ x → vacantAt s x ≡ vacantAt s y
@@ -109,26 +102,30 @@ module _ (table : FunnelTable) (counts words flags marks : List ℕ) (placed s :
   unfolding ready
   ready-by h o m r e = rw (unplaced-yes flags marks s o m) (into-search h r e)
 
-  module _ (h : placed < table .plan .maximum) (o : getD flags s 0 ≡ 0 → ⊥) (m : getD marks s 0 ≡ 0) where
+  -- the same by the slot's identity, as the code reads it first
+  module _ (h : placed < table .plan .maximum) (o : getD flags s 0 ≡ 0 → ⊥) (m : getD marks s 0 ≡ 0) (identity : ℕ) (is : identity ≡ getD words s 0) where
     abbrev found : Search
-    found = findOf table counts words marks (getD words s 0)
+    found = findOf table counts words marks identity
+
+    by-found : (r : Search) → found ≡ r → ready table counts words flags marks placed s ≡ vacantAt s r
+    by-found r e = ready-by h o m r (ap (findOf table counts words marks) (sym is) ∙ e)
 
     -- as a walk over the levels finds it
     pub ready-stopped : (r : Stop) (at : ℕ) → StopsAt r found (Unit {0}) → r ≡ stop.Vacant at → eqb at s ≡ ready table counts words flags marks placed s
     unfolding StopsAt
     ready-stopped r at e q =
         let v : VacantAt at found = subst (λ (x : Stop). StopsAt x found (Unit {0})) q e in
-        ap (λ (x : ℕ). eqb x s) (v .there) ∙ sym (ready-by h o m _ (v .is))
+        ap (λ (x : ℕ). eqb x s) (v .there) ∙ sym (by-found _ (v .is))
 
     pub ready-there : (r : Stop) (at : ℕ) → StopsAt r found (Unit {0}) → r ≡ stop.Hit at → false ≡ ready table counts words flags marks placed s
     unfolding StopsAt
     ready-there r at e q =
         let v : HitAt at found = subst (λ (x : Stop). StopsAt x found (Unit {0})) q e in
-        sym (ready-by h o m _ (v .is))
+        sym (by-found _ (v .is))
 
     -- as the whole search tells it
     pub ready-ends : (b : Bool) → b ≡ vacantAt s found → b ≡ ready table counts words flags marks placed s
-    ready-ends b e = e ∙ sym (ready-by h o m found refl)
+    ready-ends b e = e ∙ sym (by-found found refl)
 
 -- what a ready slot is
 pub record Ready (table : FunnelTable) (counts words flags marks : List ℕ) (placed s : ℕ) : Type 0 where

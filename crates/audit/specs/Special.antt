@@ -11,7 +11,7 @@ use Rattle.funnel.specs.declared.table.Search.{Search}
 use Rattle.funnel.specs.declared.table.Search.the-variants as search
 use Rattle.funnel.specs.Path.{Path, join, levelsFrom, primaryFrom, fallbackOf}
 use Rattle.funnel.specs.Search.{searchOf}
-use Rattle.audit.specs.ReadyLaws.{vacantAt}
+use Rattle.audit.specs.Greedy.{vacantAt}
 
 -- "per level one bucket"
 abbrev pub ordinaryPath : FunnelTable → (counts : List ℕ) (identity : ℕ) → Path

@@ -25,8 +25,8 @@ use Rattle.funnel.specs.PlanLaws.{primary-start, primary-room}
 use Rattle.funnel.specs.Valid.{Valid, SpecialRoom}
 use Rattle.funnel.specs.Every.{Every, Between}
 use Rattle.funnel.specs.EveryLaws.{every-map, rising-between}
-use Rattle.audit.specs.Greedy.{ready}
-use Rattle.audit.specs.ReadyLaws.{vacantAt, ready-vacant, ready-marked, ready-exhausted, ready-by}
+use Rattle.audit.specs.Greedy.{ready, vacantAt}
+use Rattle.audit.specs.ReadyLaws.{ready-vacant, ready-marked, ready-exhausted, ready-by}
 use Rattle.audit.specs.Special.{ordinaryPath, specialPath, goesOn, live, readyPast}
 
 -- ---- searches over marks that are alike on their path
@@ -178,10 +178,11 @@ module _ (table : FunnelTable) (counts words flags marks : List ℕ) (s : ℕ) w
   unfolding live
   live-vacant h = rw (eq-eqb _ _ h)
 
-  pub live-found : (getD flags s 0 ≡ 0 → ⊥) → (r x : Search) → r ≡ searchOf words marks (getD words s 0) (ordinaryPath table counts (getD words s 0)) 0 → r ≡ x
-      → goesOn x ≡ live table counts words flags marks s
+  -- by the slot's identity, as the code reads it first
+  pub live-found : (getD flags s 0 ≡ 0 → ⊥) → (identity : ℕ) → identity ≡ getD words s 0 → (r x : Search)
+      → r ≡ searchOf words marks identity (ordinaryPath table counts identity) 0 → r ≡ x → goesOn x ≡ live table counts words flags marks s
   unfolding live
-  live-found h r x e q = rw (ne-eqb _ _ h, ← e, q)
+  live-found h identity is r x e q = rw (ne-eqb _ _ h, ← is, ← e, q)
 
 -- ---- the two special stages put together
 

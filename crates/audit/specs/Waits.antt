@@ -17,9 +17,8 @@ use Rattle.waiting.specs.Links.{candidate, Fits, Beyond}
 use Rattle.waiting.specs.Waiting.{Waiting}
 use Rattle.audit.specs.declared.slots.First.{First}
 use Rattle.audit.specs.declared.slots.First.the-variants.{At, Nothing}
-use Rattle.audit.specs.Greedy.{Taken}
+use Rattle.audit.specs.Greedy.{Taken, vacantAt}
 use Rattle.audit.specs.Going.{Going}
-use Rattle.audit.specs.ReadyLaws.{vacantAt}
 use Rattle.audit.specs.Special.{specialPath, live}
 
 -- the search of a slot's identity along the special slots

@@ -16,6 +16,7 @@ use Rattle.funnel.specs.declared.table.FunnelTable.{FunnelTable}
 use Rattle.funnel.specs.declared.table.Search.{Search}
 use Rattle.funnel.specs.declared.table.Search.the-variants as search
 use Rattle.funnel.specs.Path.{slotOf, primaryStart}
+use Rattle.funnel.specs.Search.{searchOf}
 use Rattle.queue.specs.declared.scan.Smallest.{Smallest}
 use Rattle.queue.specs.declared.scan.Smallest.the-variants as queued
 use Rattle.queue.specs.Queue.{holds, Queue, Changed, firstIn, Found}
@@ -26,10 +27,9 @@ use Rattle.waiting.specs.Waiting.{Unique, Waiting, Chained, Woken}
 use Rattle.waiting.specs.WaitingLaws.{waiting-quiet, waiting-dropped, waiting-filed, waiting-placed}
 use Rattle.audit.specs.declared.slots.First.{First}
 use Rattle.audit.specs.declared.slots.First.the-variants.{At, Nothing}
-use Rattle.audit.specs.Greedy.{firstFrom, ready, Taken, taken}
+use Rattle.audit.specs.Greedy.{firstFrom, ready, Taken, taken, vacantAt}
 use Rattle.audit.specs.FirstLaws.{first-at, first-all}
 use Rattle.audit.specs.GreedyLaws.{going-special, going-stop, going-end}
-use Rattle.audit.specs.ReadyLaws.{vacantAt}
 use Rattle.audit.specs.Special.{specialPath, live, readyPast}
 use Rattle.audit.specs.SpecialLaws.{live-alike, special-alike, special-vacant, search-marked, ready-live}
 use Rattle.audit.specs.VerdictLaws.{Room}
@@ -160,9 +160,13 @@ module _ (table : FunnelTable) {counts : List ℕ} (is : IsPlan (table .n) (tabl
       go (search.Range refusal) e h = let z : _≡_ {A = ℕ} 0 1 = cc in omega arith
       go (search.Vacant k p) e h = let z : _≡_ {A = ℕ} 0 1 = cc in omega arith
 
--- as the code finds it
-pub vacancy-found : (r x : Search) → r ≡ x → (s : Search) → r ≡ s → (f : First) → f ≡ vacancyOf s → f ≡ vacancyOf x
-vacancy-found r x e s q f h = h ∙ ap vacancyOf (sym q ∙ e)
+-- as the code finds it, by the slot's identity, which it reads first
+pub vacancy-found : (table : FunnelTable) (words marks : List ℕ) (start slot identity : ℕ) → identity ≡ getD words slot 0
+    → (r : Search) → r ≡ searchOf words marks identity (specialPath table start identity) 0
+    → (s : Search) → r ≡ s → (f : First) → f ≡ vacancyOf s → f ≡ vacancyOf (specialEnd table words marks start slot)
+vacancy-found table words marks start slot identity is r e s q f h =
+    let w : r ≡ specialEnd table words marks start slot = rw (← is) e in
+    h ∙ ap vacancyOf (sym q ∙ w)
 
 -- ---- candidates that are not ready
 

@@ -4,6 +4,8 @@ ghost use Prim.Native.Nat.{_≤_};
 ghost use lib.ListN.{length};
 ghost use Rattle.funnel.specs.Dirty.{dirtyAt};
 ghost use Rattle.audit.specs.Greedy.{firstFrom, unplaced};
+ghost use Rattle.lent.specs.Lent.{wordsIn};
+use lent::store::word;
 
 // The smallest slot with a property, where there is one.
 pub enum First {
@@ -12,9 +14,9 @@ pub enum First {
 }
 
 // DIRTY: the smallest of n slots whose flag is above 1, or that is vacant with a nonzero word.
-pub fn first_dirty(words: &[u64], flags: &[u8], n: u64) -> First
-    requires { ⌜ (n ≤ length (now words)) × (n ≤ length (now flags)) ⌝ }
-    ensures { λ r. ⌜ r ≡ firstFrom (dirtyAt (now (words .entry)) (now (flags .entry))) 0 n ⌝ }
+pub fn first_dirty(words: &[u64], flags: &[u8], n: u64, lent: &[u8], bytes: bool) -> First
+    requires { ⌜ (n ≤ length (wordsIn bytes (now words) (now lent))) × (n ≤ length (now flags)) ⌝ }
+    ensures { λ r. ⌜ r ≡ firstFrom (dirtyAt (wordsIn bytes (now (words .entry)) (now (lent .entry))) (now (flags .entry))) 0 n ⌝ }
 {
     let mut slot = 0;
     while slot < n {
@@ -23,7 +25,7 @@ pub fn first_dirty(words: &[u64], flags: &[u8], n: u64) -> First
         let s = at as usize;
         let flag = flags[s];
         if flag == 0 {
-            if words[s] != 0 {
+            if word(bytes, words, lent, at) != 0 {
                 return First::At { slot: at };
             }
         } else {

@@ -8,10 +8,12 @@ ghost use Rattle.audit.specs.Special.{live};
 ghost use Rattle.audit.specs.Verdicts.{Judged, Offered};
 ghost use Rattle.funnel.specs.Path.{primaryStart};
 ghost use Rattle.funnel.specs.Valid.{Valid};
+ghost use Rattle.lent.specs.Lent.{wordsIn};
 ghost use Rattle.waiting.specs.Links.{space};
 use funnel::table::FunnelTable;
 use funnel::table::Search;
-use funnel_numbers::search::find_ordinary;
+use funnel_search::search::find_ordinary;
+use lent::store::word;
 use queue::keep::add;
 use waiting::chain::clear;
 
@@ -23,16 +25,18 @@ pub fn judge(
     flags: &[u8],
     marks: &mut [u8],
     start: u64,
+    lent: &[u8],
+    bytes: bool,
 )
-    requires { ⌜ Valid table (now counts) (now words) (now marks) × (length (now flags) ≡ table .n) × (start ≡ primaryStart (table .plan) (now counts)) ⌝ }
-    ensures { λ r. ⌜ Judged (live table (now (counts .entry)) (now (words .entry)) (now (flags .entry)) (now (marks .entry))) start (table .n) (now (marks .entry)) (now (marks .exit)) ⌝ }
+    requires { ⌜ Valid table (now counts) (wordsIn bytes (now words) (now lent)) (now marks) × (length (now flags) ≡ table .n) × (start ≡ primaryStart (table .plan) (now counts)) ⌝ }
+    ensures { λ r. ⌜ Judged (live table (now (counts .entry)) (wordsIn bytes (now (words .entry)) (now (lent .entry))) (now (flags .entry)) (now (marks .entry))) start (table .n) (now (marks .entry)) (now (marks .exit)) ⌝ }
 {
     let n = table.n;
     let mut slot = start;
     while slot < n {
         let at = slot;
         slot += 1;
-        if is_live(table, counts, words, flags, marks, at) {
+        if is_live(table, counts, words, flags, marks, at, lent, bytes) {
             marks[at as usize] = 1;
         } else {
             marks[at as usize] = 0;
@@ -48,16 +52,18 @@ fn is_live(
     flags: &[u8],
     marks: &[u8],
     slot: u64,
+    lent: &[u8],
+    bytes: bool,
 ) -> bool
-    requires { ⌜ Valid table (now counts) (now words) (now marks) × (length (now flags) ≡ table .n) × (slot < table .n) ⌝ }
-    ensures { λ r. ⌜ r ≡ live table (now (counts .entry)) (now (words .entry)) (now (flags .entry)) (now (marks .entry)) slot ⌝ }
+    requires { ⌜ Valid table (now counts) (wordsIn bytes (now words) (now lent)) (now marks) × (length (now flags) ≡ table .n) × (slot < table .n) ⌝ }
+    ensures { λ r. ⌜ r ≡ live table (now (counts .entry)) (wordsIn bytes (now (words .entry)) (now (lent .entry))) (now (flags .entry)) (now (marks .entry)) slot ⌝ }
 {
     let s = slot as usize;
     if flags[s] == 0 {
         return false;
     }
-    let identity = words[s];
-    match find_ordinary(table, counts, words, marks, identity) {
+    let identity = word(bytes, words, lent, slot);
+    match find_ordinary(table, counts, words, marks, identity, lent, bytes) {
         Search::Vacant {
             probes: _,
             place: _,

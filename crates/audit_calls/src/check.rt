@@ -3,6 +3,7 @@ ghost use mathlib.Core.Path.{_≡_};
 ghost use lib.ListN.{length};
 ghost use Rattle.audit_calls.specs.Check.{ended, takeAll, auditOf, checkGate, checkOf};
 ghost use Rattle.funnel.specs.Valid.{Valid};
+ghost use Rattle.lent.specs.Lent.{wordsIn};
 use audit::slots::First;
 use audit::slots::first_dirty;
 use audit::slots::first_unplaced;
@@ -42,7 +43,21 @@ pub fn check(
         order.len() as u64,
     ) {
         Gated::Refused(g) => Checked::Gate(g),
-        Gated::Passed => audit(table, counts, words, flags, marks, order),
+        Gated::Passed => {
+            let none: [u8; 0] = [];
+            let mut told: [u8; 0] = [];
+            audit(
+                table,
+                counts,
+                words,
+                flags,
+                marks,
+                order,
+                &none,
+                &mut told,
+                false,
+            )
+        }
     }
 }
 
@@ -80,13 +95,26 @@ pub fn audit(
     flags: &[u8],
     marks: &mut [u8],
     order: &mut [u64],
+    lent: &[u8],
+    lent_order: &mut [u8],
+    bytes: bool,
 ) -> Checked
-    requires { ⌜ Valid table (now counts) (now words) (now flags) × (length (now marks) ≡ table .n) × (length (now order) ≡ table .n) ⌝ }
-    ensures { λ r. ⌜ ended r (now (marks .exit)) (now (order .exit)) ≡ auditOf table (now (counts .entry)) (now (words .entry)) (now (flags .entry)) (now (marks .entry)) (now (order .entry)) ⌝ }
+    requires { ⌜ Valid table (now counts) (wordsIn bytes (now words) (now lent)) (now flags) × (length (now marks) ≡ table .n) × (length (wordsIn bytes (now order) (now «lent_order»)) ≡ table .n) ⌝ }
+    ensures { λ r. ⌜ ended r (now (marks .exit)) (wordsIn bytes (now (order .exit)) (now («lent_order» .exit))) ≡ auditOf table (now (counts .entry)) (wordsIn bytes (now (words .entry)) (now (lent .entry))) (now (flags .entry)) (now (marks .entry)) (wordsIn bytes (now (order .entry)) (now («lent_order» .entry))) ⌝ }
 {
-    match first_dirty(words, flags, table.n) {
+    match first_dirty(words, flags, table.n, lent, bytes) {
         First::At { slot } => Checked::Dirty { slot },
-        First::Nothing => place_members(table, counts, words, flags, marks, order),
+        First::Nothing => place_members(
+            table,
+            counts,
+            words,
+            flags,
+            marks,
+            order,
+            lent,
+            lent_order,
+            bytes,
+        ),
     }
 }
 
@@ -98,11 +126,24 @@ fn place_members(
     flags: &[u8],
     marks: &mut [u8],
     order: &mut [u64],
+    lent: &[u8],
+    lent_order: &mut [u8],
+    bytes: bool,
 ) -> Checked
-    requires { ⌜ Valid table (now counts) (now words) (now flags) × (length (now marks) ≡ table .n) × (length (now order) ≡ table .n) ⌝ }
-    ensures { λ r. ⌜ ended r (now (marks .exit)) (now (order .exit)) ≡ takeAll table (now (counts .entry)) (now (words .entry)) (now (flags .entry)) (now (order .entry)) ⌝ }
+    requires { ⌜ Valid table (now counts) (wordsIn bytes (now words) (now lent)) (now flags) × (length (now marks) ≡ table .n) × (length (wordsIn bytes (now order) (now «lent_order»)) ≡ table .n) ⌝ }
+    ensures { λ r. ⌜ ended r (now (marks .exit)) (wordsIn bytes (now (order .exit)) (now («lent_order» .exit))) ≡ takeAll table (now (counts .entry)) (wordsIn bytes (now (words .entry)) (now (lent .entry))) (now (flags .entry)) (wordsIn bytes (now (order .entry)) (now («lent_order» .entry))) ⌝ }
 {
-    let placed = take_members(table, counts, words, flags, marks, order);
+    let placed = take_members(
+        table,
+        counts,
+        words,
+        flags,
+        marks,
+        order,
+        lent,
+        lent_order,
+        bytes,
+    );
     match first_unplaced(flags, marks, table.n) {
         First::At { slot } => Checked::Disorder { placed, slot },
         First::Nothing => Checked::Accepted { placed },

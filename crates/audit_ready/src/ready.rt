@@ -3,18 +3,19 @@
 ghost use mathlib.Core.Path.{_≡_};
 ghost use Prim.Native.Nat.{_<_};
 ghost use lib.ListN.{length};
-ghost use Rattle.audit.specs.Greedy.{ready};
-ghost use Rattle.audit.specs.ReadyLaws.{vacantAt};
+ghost use Rattle.audit.specs.Greedy.{ready, vacantAt};
 ghost use Rattle.funnel.specs.Search.{findOf};
 ghost use Rattle.funnel.specs.Stop.{StopsAt};
 ghost use Rattle.funnel.specs.Valid.{Valid};
+ghost use Rattle.lent.specs.Lent.{wordsIn};
+use funnel::scan::pass;
 use funnel::table::FunnelTable;
 use funnel::table::Search;
 use funnel::table::Stop;
 use funnel::table::slot_of;
-use funnel_numbers::search::find;
-use funnel_numbers::search::pass;
+use funnel_search::search::find;
 use funnel_search::search::first_bucket;
+use lent::store::word;
 use probe::word::funnel_key;
 
 // Whether a slot is ready, with some placed.
@@ -26,9 +27,11 @@ pub fn is_ready(
     marks: &[u8],
     placed: u64,
     slot: u64,
+    lent: &[u8],
+    bytes: bool,
 ) -> bool
-    requires { ⌜ Valid table (now counts) (now words) (now marks) × (length (now flags) ≡ table .n) × (slot < table .n) ⌝ }
-    ensures { λ r. ⌜ r ≡ ready table (now (counts .entry)) (now (words .entry)) (now (flags .entry)) (now (marks .entry)) placed slot ⌝ }
+    requires { ⌜ Valid table (now counts) (wordsIn bytes (now words) (now lent)) (now marks) × (length (now flags) ≡ table .n) × (slot < table .n) ⌝ }
+    ensures { λ r. ⌜ r ≡ ready table (now (counts .entry)) (wordsIn bytes (now (words .entry)) (now (lent .entry))) (now (flags .entry)) (now (marks .entry)) placed slot ⌝ }
 {
     let s = slot as usize;
     if flags[s] == 0 {
@@ -40,11 +43,11 @@ pub fn is_ready(
     if table.plan.maximum <= placed {
         return false;
     }
-    let identity = words[s];
-    match pass_placed(table, counts, words, marks, identity) {
+    let identity = word(bytes, words, lent, slot);
+    match pass_placed(table, counts, words, marks, identity, lent, bytes) {
         Stop::Vacant { slot: found } => found == slot,
         Stop::Hit { slot: _ } => false,
-        Stop::Nowhere => ends_at(table, counts, words, marks, identity, slot),
+        Stop::Nowhere => ends_at(table, counts, words, marks, identity, slot, lent, bytes),
     }
 }
 
@@ -56,9 +59,11 @@ fn pass_placed(
     words: &[u64],
     marks: &[u8],
     identity: u64,
+    lent: &[u8],
+    bytes: bool,
 ) -> Stop
-    requires { ⌜ Valid table (now counts) (now words) (now marks) ⌝ }
-    ensures { λ r. ⌜ StopsAt r (findOf table (now (counts .entry)) (now (words .entry)) (now (marks .entry)) identity) (Unit {0}) ⌝ }
+    requires { ⌜ Valid table (now counts) (wordsIn bytes (now words) (now lent)) (now marks) ⌝ }
+    ensures { λ r. ⌜ StopsAt r (findOf table (now (counts .entry)) (wordsIn bytes (now (words .entry)) (now (lent .entry))) (now (marks .entry)) identity) (Unit {0}) ⌝ }
 {
     let key = funnel_key(table.seed, identity);
     let alpha = table.plan.alpha;
@@ -73,7 +78,7 @@ fn pass_placed(
         }
         let ahead = first_bucket(key, counts, table.plan.alpha, level + 1);
         let from = start + bucket * beta;
-        let stop = pass(words, marks, identity, from, beta);
+        let stop = pass(words, marks, identity, from, beta, lent, bytes);
         let Stop::Nowhere = stop else {
             return stop;
         };
@@ -92,11 +97,13 @@ fn ends_at(
     marks: &[u8],
     identity: u64,
     slot: u64,
+    lent: &[u8],
+    bytes: bool,
 ) -> bool
-    requires { ⌜ Valid table (now counts) (now words) (now marks) ⌝ }
-    ensures { λ r. ⌜ r ≡ vacantAt slot (findOf table (now (counts .entry)) (now (words .entry)) (now (marks .entry)) identity) ⌝ }
+    requires { ⌜ Valid table (now counts) (wordsIn bytes (now words) (now lent)) (now marks) ⌝ }
+    ensures { λ r. ⌜ r ≡ vacantAt slot (findOf table (now (counts .entry)) (wordsIn bytes (now (words .entry)) (now (lent .entry))) (now (marks .entry)) identity) ⌝ }
 {
-    match find(table, counts, words, marks, identity) {
+    match find(table, counts, words, marks, identity, lent, bytes) {
         Search::Vacant { probes: _, place } => slot_of(place) == slot,
         Search::Hit {
             probes: _,

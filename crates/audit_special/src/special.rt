@@ -8,13 +8,16 @@ ghost use Rattle.audit.specs.Waits.{specialEnd, vacancyOf, Begun, Finished, Cho
 ghost use Rattle.funnel.specs.Path.{primaryStart};
 ghost use Rattle.funnel.specs.Search.{searchOf};
 ghost use Rattle.funnel.specs.Valid.{Valid};
+ghost use Rattle.lent.specs.Lent.{wordsIn};
 ghost use Rattle.waiting.specs.Links.{Fits};
 use audit::slots::First;
 use funnel::table::FunnelTable;
 use funnel::table::Search;
 use funnel::table::slot_of;
-use funnel_numbers::search::search_fallback;
-use funnel_numbers::search::search_primary;
+use funnel_stages::stages::search_fallback;
+use funnel_stages::stages::search_primary;
+use lent::store::put_word;
+use lent::store::word;
 use probe::word::funnel_key;
 use queue::keep::remove;
 use queue::keep::smallest;
@@ -33,21 +36,24 @@ pub fn take_live(
     order: &mut [u64],
     start: u64,
     before: u64,
+    lent: &[u8],
+    lent_order: &mut [u8],
+    bytes: bool,
 ) -> u64
-    requires { ⌜ Valid table (now counts) (now words) (now marks) × (start ≡ primaryStart (table .plan) (now counts)) × Begun table (now counts) (now words) (now flags) start (table .plan .«special_len») (now marks) (now order) before ⌝ }
-    ensures { λ r. ⌜ Finished table (now (counts .entry)) (now (words .entry)) (now (flags .entry)) start (table .plan .«special_len») (now (marks .entry)) (now (order .entry)) before (now (order .exit)) r ⌝ }
+    requires { ⌜ Valid table (now counts) (wordsIn bytes (now words) (now lent)) (now marks) × (start ≡ primaryStart (table .plan) (now counts)) × Begun table (now counts) (wordsIn bytes (now words) (now lent)) (now flags) start (table .plan .«special_len») (now marks) (wordsIn bytes (now order) (now «lent_order»)) before ⌝ }
+    ensures { λ r. ⌜ Finished table (now (counts .entry)) (wordsIn bytes (now (words .entry)) (now (lent .entry))) (now (flags .entry)) start (table .plan .«special_len») (now (marks .entry)) (wordsIn bytes (now (order .entry)) (now («lent_order» .entry))) before (wordsIn bytes (now (order .exit)) (now («lent_order» .exit))) r ⌝ }
 {
     let n = table.n;
     let m = table.plan.special_len;
     let mut placed = before;
     while placed < n {
-        match next_live(table, counts, words, marks, placed, start) {
+        match next_live(table, counts, words, marks, placed, start, lent, bytes) {
             First::At { slot } => {
                 let number = slot - start;
                 wake(marks, m, number);
                 marks[slot as usize] = 1;
                 remove(marks, 8 * m, m, number);
-                order[placed as usize] = slot;
+                put_word(bytes, order, lent_order, placed, slot);
                 placed += 1;
             }
             First::Nothing => {
@@ -66,9 +72,11 @@ fn next_live(
     marks: &mut [u8],
     placed: u64,
     start: u64,
+    lent: &[u8],
+    bytes: bool,
 ) -> First
-    requires { ⌜ Valid table (now counts) (now words) (now marks) × (start ≡ primaryStart (table .plan) (now counts)) × Fits (now marks) (table .plan .«special_len») ⌝ }
-    ensures { λ r. ⌜ Turned table (now (words .entry)) start (table .plan .«special_len») (now (marks .entry)) (now (marks .exit)) × Chosen table (now (words .entry)) start (table .plan .«special_len») placed (now (marks .entry)) (now (marks .exit)) r ⌝ }
+    requires { ⌜ Valid table (now counts) (wordsIn bytes (now words) (now lent)) (now marks) × (start ≡ primaryStart (table .plan) (now counts)) × Fits (now marks) (table .plan .«special_len») ⌝ }
+    ensures { λ r. ⌜ Turned table (wordsIn bytes (now (words .entry)) (now (lent .entry))) start (table .plan .«special_len») (now (marks .entry)) (now (marks .exit)) × Chosen table (wordsIn bytes (now (words .entry)) (now (lent .entry))) start (table .plan .«special_len») placed (now (marks .entry)) (now (marks .exit)) r ⌝ }
 {
     if table.plan.maximum <= placed {
         return First::Nothing;
@@ -81,7 +89,7 @@ fn next_live(
             }
             Smallest::At { number } => {
                 let slot = start + number;
-                match vacancy(table, counts, words, marks, start, slot) {
+                match vacancy(table, counts, words, marks, start, slot, lent, bytes) {
                     First::Nothing => {
                         remove(marks, 8 * m, m, number);
                     }
@@ -105,12 +113,14 @@ fn vacancy(
     marks: &[u8],
     start: u64,
     slot: u64,
+    lent: &[u8],
+    bytes: bool,
 ) -> First
-    requires { ⌜ Valid table (now counts) (now words) (now marks) × (start ≡ primaryStart (table .plan) (now counts)) × (slot < table .n) ⌝ }
-    ensures { λ r. ⌜ r ≡ vacancyOf (specialEnd table (now (words .entry)) (now (marks .entry)) start slot) ⌝ }
+    requires { ⌜ Valid table (now counts) (wordsIn bytes (now words) (now lent)) (now marks) × (start ≡ primaryStart (table .plan) (now counts)) × (slot < table .n) ⌝ }
+    ensures { λ r. ⌜ r ≡ vacancyOf (specialEnd table (wordsIn bytes (now (words .entry)) (now (lent .entry))) (now (marks .entry)) start slot) ⌝ }
 {
-    let identity = words[slot as usize];
-    match find_special(table, counts, words, marks, start, identity) {
+    let identity = word(bytes, words, lent, slot);
+    match find_special(table, counts, words, marks, start, identity, lent, bytes) {
         Search::Vacant { probes: _, place } => {
             let end = slot_of(place);
             return First::At { slot: end };
@@ -138,15 +148,27 @@ fn find_special(
     marks: &[u8],
     start: u64,
     identity: u64,
+    lent: &[u8],
+    bytes: bool,
 ) -> Search
-    requires { ⌜ Valid table (now counts) (now words) (now marks) × (start ≡ primaryStart (table .plan) (now counts)) ⌝ }
-    ensures { λ r. ⌜ r ≡ searchOf (now (words .entry)) (now (marks .entry)) identity (specialPath table start identity) 0 ⌝ }
+    requires { ⌜ Valid table (now counts) (wordsIn bytes (now words) (now lent)) (now marks) × (start ≡ primaryStart (table .plan) (now counts)) ⌝ }
+    ensures { λ r. ⌜ r ≡ searchOf (wordsIn bytes (now (words .entry)) (now (lent .entry))) (now (marks .entry)) identity (specialPath table start identity) 0 ⌝ }
 {
     let key = funnel_key(table.seed, identity);
-    let primary = search_primary(table, start, words, marks, identity, key, 0);
+    let primary = search_primary(table, start, words, marks, identity, key, 0, lent, bytes);
     let Search::Full { probes } = primary else {
         return primary;
     };
     let fallback_start = start + table.plan.special_primary_len;
-    search_fallback(table, fallback_start, words, marks, identity, key, probes)
+    search_fallback(
+        table,
+        fallback_start,
+        words,
+        marks,
+        identity,
+        key,
+        probes,
+        lent,
+        bytes,
+    )
 }

@@ -8,6 +8,7 @@ ghost use Rattle.gridder_state.specs.State.{holdsFunnel};
 ghost use Rattle.lent.specs.Lent.{wordsOf};
 ghost use Rattle.gridder_check.specs.Check.{checkCallGate, checkedFields, checkLeft, checkCall};
 use audit_calls::check::Checked;
+use audit_calls::check::audit;
 use audit_calls::check::check_gate;
 use funnel::table::FunnelTable;
 use geometry::config::Gated;
@@ -21,7 +22,6 @@ use gridder_answer::gate::block_gate;
 use gridder_state::state::read_counts;
 use gridder_state::state::table_in;
 use lent::word::word_count;
-use lent_check::check::audit;
 use refusal::Name;
 use refusal::number;
 
@@ -45,7 +45,22 @@ pub fn check_in(
     let marked = marks.len() as u64;
     match check_call_gate(table, &counts, entries, slots, marked, places, answer.len()) {
         Gated::Refused(g) => say_gate(answer, g),
-        Gated::Passed => say_checked(answer, audit(table, &counts, words, flags, marks, order)),
+        Gated::Passed => {
+            let none: [u64; 0] = [];
+            let mut told: [u64; 0] = [];
+            let done = audit(
+                table,
+                &counts,
+                &none,
+                flags,
+                marks,
+                &mut told,
+                words,
+                order,
+                true,
+            );
+            say_checked(answer, done)
+        }
     }
 }
 

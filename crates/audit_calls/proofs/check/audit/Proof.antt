@@ -26,8 +26,11 @@ same-length c = search needs
 same-length-2 : tie.Need-same-length-2
 same-length-2 c = search needs
 
+same-length-3 : tie.Need-same-length-3
+same-length-3 c = search needs
+
 returns-2 : tie.Need-returns-2
-returns-2 c = c .before .before .before .before .place-members .ensures ∙ audit-clean _ _ _ _ _ _ _ (c .before .before .before .before .before .before .before .before .before .first-dirty .ensures) (c .before .before .before .before .before .before .before .enum-told .given .1)
+returns-2 c = c .before .before .before .before .before .before .place-members .ensures ∙ audit-clean _ _ _ _ _ _ _ (c .before .before .before .before .before .before .before .before .before .before .before .before .first-dirty .ensures) (c .before .before .before .before .before .before .before .before .before .before .enum-told .given .1)
 
 pub audit-spec : {M : Type 1} → statement M
 audit-spec =
@@ -40,4 +43,5 @@ audit-spec =
     returns
     same-length
     same-length-2
+    same-length-3
     returns-2)

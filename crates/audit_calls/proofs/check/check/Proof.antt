@@ -1,6 +1,7 @@
 -- `audit_calls::check::check` meets its contract. Assumes nothing.
 use denote.Ref.{now}
 use borrow.Author.Needs.{needs}
+use Rattle.lent.specs.Lent.{wordsIn}
 use Rattle.audit_calls.specs.CheckLaws.{passed-lent, check-refused, check-passed}
 use Rattle.audit_calls.proofs.check.check.Statement.{statement}
 use Rattle.audit_calls.proofs.check.check.Tie as tie
@@ -14,8 +15,15 @@ enum-known-g c = search needs
 enum-told : tie.Need-enum-told
 enum-told c = search needs
 
+slice-aggregate-audit : tie.Need-slice-aggregate-audit
+slice-aggregate-audit c = search needs
+
+slice-aggregate-audit-2 : tie.Need-slice-aggregate-audit-2
+slice-aggregate-audit-2 c = search needs
+
 audit-requires : tie.Need-audit-requires
-audit-requires c κs = let l = passed-lent _ _ (now (c .before .before .before .before .before .before .before .before .before .args .words)) (now (c .before .before .before .before .before .before .before .before .before .args .flags)) (now (c .before .before .before .before .before .before .before .before .before .args .marks)) (now (c .before .before .before .before .before .before .before .before .before .args .order)) _ (c .before .before .before .before .check-gate .ensures) (c .before .before .enum-told .given .1) in (l .valid, l .marks-n, l .order-n)
+unfolding wordsIn
+audit-requires c κs = let l = passed-lent _ _ (now (c .before .before .before .before .before .before .before .before .before .before .before .args .words)) (now (c .before .before .before .before .before .before .before .before .before .before .before .args .flags)) (now (c .before .before .before .before .before .before .before .before .before .before .before .args .marks)) (now (c .before .before .before .before .before .before .before .before .before .before .before .args .order)) _ (c .before .before .before .before .before .before .check-gate .ensures) (c .before .before .before .before .enum-told .given .1) in (l .valid, l .marks-n, l .order-n)
 
 returns : tie.Need-returns
 returns c = check-refused _ _ _ _ _ _ _ (c .before .before .before .check-gate .ensures) _ (c .before .g .given .1)
@@ -27,7 +35,8 @@ same-length-2 : tie.Need-same-length-2
 same-length-2 c = search needs
 
 returns-2 : tie.Need-returns-2
-returns-2 c = check-passed _ _ _ _ _ _ _ (c .before .before .before .before .before .before .before .before .before .check-gate .ensures) _ (c .before .before .before .before .before .before .before .enum-told .given .1) (c .before .before .before .before .audit .ensures)
+unfolding wordsIn
+returns-2 c = check-passed _ _ _ _ _ _ _ (c .before .before .before .before .before .before .before .before .before .before .before .before .check-gate .ensures) _ (c .before .before .before .before .before .before .before .before .before .before .enum-told .given .1) (c .before .before .before .before .before .audit .ensures)
 
 pub check-spec : {M : Type 1} → statement M
 check-spec =
@@ -36,6 +45,8 @@ check-spec =
     check-gate-requires
     enum-known-g
     enum-told
+    slice-aggregate-audit
+    slice-aggregate-audit-2
     audit-requires
     returns
     same-length

@@ -28,4 +28,11 @@ returns-4 c = check-gate-pass _ _ _ _ _ _ _ (c .before .before .before .before .
 pub check-gate-spec : {M : Type 1} → statement M
 check-gate-spec =
     tie.close
-    (tie.spec table-gate-requires enum-known-g enum-told returns returns-2 returns-3 returns-4)
+    (tie.spec
+    table-gate-requires
+    enum-known-g
+    enum-told
+    returns
+    returns-2
+    returns-3
+    returns-4)

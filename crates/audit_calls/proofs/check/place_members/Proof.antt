@@ -22,17 +22,23 @@ same-length c = search needs
 same-length-2 : tie.Need-same-length-2
 same-length-2 c = search needs
 
-returns : tie.Need-returns
-returns c = take-ends _ _ _ _ _ _ _ _ _ _ (c .before .before .before .before .before .before .before .before .before .take-members .ensures) (c .before .before .before .first-unplaced .ensures) (c .before .slot .given .1)
-
 same-length-3 : tie.Need-same-length-3
 same-length-3 c = search needs
+
+returns : tie.Need-returns
+returns c = take-ends _ _ _ _ _ _ _ _ _ _ (c .before .before .before .before .before .before .before .before .before .before .before .take-members .ensures) (c .before .before .before .first-unplaced .ensures) (c .before .slot .given .1)
 
 same-length-4 : tie.Need-same-length-4
 same-length-4 c = search needs
 
+same-length-5 : tie.Need-same-length-5
+same-length-5 c = search needs
+
+same-length-6 : tie.Need-same-length-6
+same-length-6 c = search needs
+
 returns-2 : tie.Need-returns-2
-returns-2 c = take-ends _ _ _ _ _ _ _ _ _ _ (c .before .before .before .before .before .before .before .before .take-members .ensures) (c .before .before .first-unplaced .ensures) (c .enum-told .given .1)
+returns-2 c = take-ends _ _ _ _ _ _ _ _ _ _ (c .before .before .before .before .before .before .before .before .before .before .take-members .ensures) (c .before .before .first-unplaced .ensures) (c .enum-told .given .1)
 
 pub place-members-spec : {M : Type 1} → statement M
 place-members-spec =
@@ -44,7 +50,9 @@ place-members-spec =
     enum-told
     same-length
     same-length-2
-    returns
     same-length-3
+    returns
     same-length-4
+    same-length-5
+    same-length-6
     returns-2)

@@ -20,11 +20,8 @@ returns-2 c = sym (ready-marked _ _ _ _ _ _ _ (c .if2 .taken))
 returns-3 : tie.Need-returns-3
 returns-3 c = sym (ready-exhausted _ _ _ _ _ _ _ (c .if3 .taken))
 
-mul-identity : tie.Need-mul-identity
-mul-identity c = search needs
-
-shared-slice-read-identity : tie.Need-shared-slice-read-identity
-shared-slice-read-identity c = search needs
+word-requires : tie.Need-word-requires
+word-requires c κs = search needs
 
 pass-placed-requires : tie.Need-pass-placed-requires
 pass-placed-requires c κs = search needs
@@ -42,13 +39,13 @@ ends-at-requires : tie.Need-ends-at-requires
 ends-at-requires c κs = search needs
 
 returns-4 : tie.Need-returns-4
-returns-4 c = ready-stopped _ _ _ _ _ _ _ (c .before .before .before .before .before .if3 .left) (c .before .before .before .before .before .before .before .before .before .if1 .left) (c .before .before .before .before .before .before .before .if2 .left) _ _ (c .before .before .before .pass-placed .ensures) (c .before .found .given .1)
+returns-4 c = ready-stopped _ _ _ _ _ _ _ (c .before .before .before .before .before .if3 .left) (c .before .before .before .before .before .before .before .before .before .if1 .left) (c .before .before .before .before .before .before .before .if2 .left) _ (c .before .before .before .before .word .ensures) _ _ (c .before .before .before .pass-placed .ensures) (c .before .found .given .1)
 
 returns-5 : tie.Need-returns-5
-returns-5 c = ready-there _ _ _ _ _ _ _ (c .before .before .before .before .if3 .left) (c .before .before .before .before .before .before .before .before .if1 .left) (c .before .before .before .before .before .before .if2 .left) _ _ (c .before .before .pass-placed .ensures) (c .enum-told .given .1)
+returns-5 c = ready-there _ _ _ _ _ _ _ (c .before .before .before .before .if3 .left) (c .before .before .before .before .before .before .before .before .if1 .left) (c .before .before .before .before .before .before .if2 .left) _ (c .before .before .before .word .ensures) _ _ (c .before .before .pass-placed .ensures) (c .enum-told .given .1)
 
 returns-6 : tie.Need-returns-6
-returns-6 c = ready-ends _ _ _ _ _ _ _ (c .before .before .before .before .before .if3 .left) (c .before .before .before .before .before .before .before .before .before .if1 .left) (c .before .before .before .before .before .before .before .if2 .left) _ (c .ends-at .ensures)
+returns-6 c = ready-ends _ _ _ _ _ _ _ (c .before .before .before .before .before .if3 .left) (c .before .before .before .before .before .before .before .before .before .if1 .left) (c .before .before .before .before .before .before .before .if2 .left) _ (c .before .before .before .before .word .ensures) _ (c .ends-at .ensures)
 
 pub is-ready-spec : {M : Type 1} → statement M
 is-ready-spec =
@@ -59,8 +56,7 @@ is-ready-spec =
     shared-slice-read-if2
     returns-2
     returns-3
-    mul-identity
-    shared-slice-read-identity
+    word-requires
     pass-placed-requires
     enum-known-found
     enum-told

@@ -13,22 +13,22 @@ funnel-key-requires : tie.Need-funnel-key-requires
 funnel-key-requires c κs = search needs
 
 search-primary-requires : tie.Need-search-primary-requires
-search-primary-requires c κs = (special-primary (c .before .before .before .pre .0) _ (c .before .before .before .args .identity) (c .before .before .before .pre .1), record { is-inner = c .funnel-key .ensures .0; is-outer = c .funnel-key .ensures .1 })
+search-primary-requires c κs = (special-primary (c .before .before .before .before .pre .0) _ (c .before .before .before .before .args .identity) (c .before .before .before .before .pre .1), record { is-inner = c .funnel-key .ensures .0; is-outer = c .funnel-key .ensures .1 })
 
 enum-known-primary : tie.Need-enum-known-primary
 enum-known-primary c = search needs
 
 returns : tie.Need-returns
-returns c = stays _ _ _ _ _ (c .match .keys2) ∙ special-resume (c .before .before .before .before .before .pre .0) _ _ (c .before .before .before .before .before .pre .1) _ (c .before .search-primary .ensures)
+returns c = stays _ _ _ _ _ (c .match .keys2) ∙ special-resume (c .before .before .before .before .before .before .pre .0) _ _ (c .before .before .before .before .before .before .pre .1) _ (c .before .search-primary .ensures)
 
 add-fallback-start : tie.Need-add-fallback-start
-add-fallback-start c = let f = plan-facts (c .before .before .before .before .before .before .before .before .pre .0 .planned) in let s = primary-start (c .before .before .before .before .before .before .before .before .pre .0 .planned) in let t = c .before .before .before .before .before .before .before .before .pre .1 in omega arith
+add-fallback-start c = let f = plan-facts (c .before .before .before .before .before .before .before .before .before .pre .0 .planned) in let s = primary-start (c .before .before .before .before .before .before .before .before .before .pre .0 .planned) in let t = c .before .before .before .before .before .before .before .before .before .pre .1 in omega arith
 
 search-fallback-requires : tie.Need-search-fallback-requires
-search-fallback-requires c κs = (special-fallback (c .before .before .before .before .before .before .before .before .pre .0) _ _ (c .before .before .before .before .before .before .before .before .pre .1) _ (c .before .before .before .before .search-primary .ensures) _ (c .before .before .primary .given .1), record { is-inner = c .before .before .before .before .before .funnel-key .ensures .0; is-outer = c .before .before .before .before .before .funnel-key .ensures .1 })
+search-fallback-requires c κs = (special-fallback (c .before .before .before .before .before .before .before .before .before .pre .0) _ _ (c .before .before .before .before .before .before .before .before .before .pre .1) _ (c .before .before .before .before .search-primary .ensures) _ (c .before .before .primary .given .1), record { is-inner = c .before .before .before .before .before .funnel-key .ensures .0; is-outer = c .before .before .before .before .before .funnel-key .ensures .1 })
 
 returns-2 : tie.Need-returns-2
-returns-2 c = special-found (c .before .before .before .before .before .before .before .before .before .pre .0) _ _ (c .before .before .before .before .before .before .before .before .before .pre .1) _ (c .before .before .before .before .before .search-primary .ensures) _ (c .before .before .before .primary .given .1) _ (c .search-fallback .ensures)
+returns-2 c = special-found (c .before .before .before .before .before .before .before .before .before .before .pre .0) _ _ (c .before .before .before .before .before .before .before .before .before .before .pre .1) _ (c .before .before .before .before .before .search-primary .ensures) _ (c .before .before .before .primary .given .1) _ (c .search-fallback .ensures)
 
 pub find-special-spec : {M : Type 1} → statement M
 find-special-spec =

@@ -16,4 +16,9 @@ unfolding checkCallGate
 returns c = block-after _ _ _ _ _ (c .block-gate .ensures) (c .before .check-gate .ensures)
 
 pub check-call-gate-spec : {M : Type 1} → statement M
-check-call-gate-spec = tie.close (tie.spec check-gate-requires block-gate-requires returns)
+check-call-gate-spec =
+    tie.close
+    (tie.spec
+    check-gate-requires
+    block-gate-requires
+    returns)

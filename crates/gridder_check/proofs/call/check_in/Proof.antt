@@ -31,11 +31,17 @@ say-gate-requires c κs = search needs
 enum-told : tie.Need-enum-told
 enum-told c = search needs
 
+slice-aggregate-audit : tie.Need-slice-aggregate-audit
+slice-aggregate-audit c = search needs
+
+slice-aggregate-audit-2 : tie.Need-slice-aggregate-audit-2
+slice-aggregate-audit-2 c = search needs
+
 audit-requires : tie.Need-audit-requires
-audit-requires c κs = checking-ready _ (now (c .before .before .before .before .before .before .before .before .before .before .before .before .before .before .before .before .before .before .before .args .words)) (now (c .before .before .before .before .before .before .before .before .before .before .before .before .before .before .before .before .before .before .before .args .flags)) (now (c .before .before .before .before .before .before .before .before .before .before .before .before .before .before .before .before .before .before .before .args .marks)) (now (c .before .before .before .before .before .before .before .before .before .before .before .before .before .before .before .before .before .before .before .args .order)) (now (c .before .before .before .before .before .before .before .before .before .before .before .before .before .before .before .before .before .before .before .args .answer)) _ _ _ _ (c .before .before .before .before .before .before .before .before .before .before .before .before .table-in .ensures) (c .before .before .before .before .before .before .before .before .before .before .read-counts .ensures) (c .before .before .before .before .before .before .before .before .before .word-count .ensures) (c .before .before .before .before .before .before .before .before .word-count2 .ensures) _ (c .before .before .before .before .before .before .check-call-gate .ensures) (c .before .before .before .before .enum-told .given .1) .lent
+audit-requires c κs = let r = checking-ready _ (now (c .before .before .before .before .before .before .before .before .before .before .before .before .before .before .before .before .before .before .before .before .args .words)) (now (c .before .before .before .before .before .before .before .before .before .before .before .before .before .before .before .before .before .before .before .before .args .flags)) (now (c .before .before .before .before .before .before .before .before .before .before .before .before .before .before .before .before .before .before .before .before .args .marks)) (now (c .before .before .before .before .before .before .before .before .before .before .before .before .before .before .before .before .before .before .before .before .args .order)) (now (c .before .before .before .before .before .before .before .before .before .before .before .before .before .before .before .before .before .before .before .before .args .answer)) _ _ _ _ (c .before .before .before .before .before .before .before .before .before .before .before .before .before .table-in .ensures) (c .before .before .before .before .before .before .before .before .before .before .before .read-counts .ensures) (c .before .before .before .before .before .before .before .before .before .before .word-count .ensures) (c .before .before .before .before .before .before .before .before .before .word-count2 .ensures) _ (c .before .before .before .before .before .before .before .check-call-gate .ensures) (c .before .before .before .before .before .enum-told .given .1) in (r .valid, r .marks-n, r .order-n)
 
 say-checked-requires : tie.Need-say-checked-requires
-say-checked-requires c κs = checking-ready _ (now (c .before .before .before .before .before .before .before .before .before .before .before .before .before .before .before .before .before .before .before .before .before .before .before .before .args .words)) (now (c .before .before .before .before .before .before .before .before .before .before .before .before .before .before .before .before .before .before .before .before .before .before .before .before .args .flags)) (now (c .before .before .before .before .before .before .before .before .before .before .before .before .before .before .before .before .before .before .before .before .before .before .before .before .args .marks)) (now (c .before .before .before .before .before .before .before .before .before .before .before .before .before .before .before .before .before .before .before .before .before .before .before .before .args .order)) (now (c .before .before .before .before .before .before .before .before .before .before .before .before .before .before .before .before .before .before .before .before .before .before .before .before .args .answer)) _ _ _ _ (c .before .before .before .before .before .before .before .before .before .before .before .before .before .before .before .before .before .table-in .ensures) (c .before .before .before .before .before .before .before .before .before .before .before .before .before .before .before .read-counts .ensures) (c .before .before .before .before .before .before .before .before .before .before .before .before .before .before .word-count .ensures) (c .before .before .before .before .before .before .before .before .before .before .before .before .before .word-count2 .ensures) _ (c .before .before .before .before .before .before .before .before .before .before .before .check-call-gate .ensures) (c .before .before .before .before .before .before .before .before .before .enum-told .given .1) .room
+say-checked-requires c κs = checking-ready _ (now (c .before .before .before .before .before .before .before .before .before .before .before .before .before .before .before .before .before .before .before .before .before .before .before .before .before .before .before .args .words)) (now (c .before .before .before .before .before .before .before .before .before .before .before .before .before .before .before .before .before .before .before .before .before .before .before .before .before .before .before .args .flags)) (now (c .before .before .before .before .before .before .before .before .before .before .before .before .before .before .before .before .before .before .before .before .before .before .before .before .before .before .before .args .marks)) (now (c .before .before .before .before .before .before .before .before .before .before .before .before .before .before .before .before .before .before .before .before .before .before .before .before .before .before .before .args .order)) (now (c .before .before .before .before .before .before .before .before .before .before .before .before .before .before .before .before .before .before .before .before .before .before .before .before .before .before .before .args .answer)) _ _ _ _ (c .before .before .before .before .before .before .before .before .before .before .before .before .before .before .before .before .before .before .before .before .table-in .ensures) (c .before .before .before .before .before .before .before .before .before .before .before .before .before .before .before .before .before .before .read-counts .ensures) (c .before .before .before .before .before .before .before .before .before .before .before .before .before .before .before .before .before .word-count .ensures) (c .before .before .before .before .before .before .before .before .before .before .before .before .before .before .before .before .word-count2 .ensures) _ (c .before .before .before .before .before .before .before .before .before .before .before .before .before .before .check-call-gate .ensures) (c .before .before .before .before .before .before .before .before .before .before .before .before .enum-told .given .1) .room
 
 same-length : tie.Need-same-length
 same-length c = search needs
@@ -53,7 +59,7 @@ same-length-4 : tie.Need-same-length-4
 same-length-4 c = search needs
 
 returns-2 : tie.Need-returns-2
-returns-2 c = checking-passed _ _ _ _ _ _ _ _ _ _ (c .before .before .before .before .before .before .before .before .before .before .before .before .before .before .before .before .before .before .before .before .table-in .ensures) (c .before .before .before .before .before .before .before .before .before .before .before .before .before .before .before .before .before .before .read-counts .ensures) (c .before .before .before .before .before .before .before .before .before .before .before .before .before .before .before .before .before .word-count .ensures) (c .before .before .before .before .before .before .before .before .before .before .before .before .before .before .before .before .word-count2 .ensures) _ (c .before .before .before .before .before .before .before .before .before .before .before .before .before .before .check-call-gate .ensures) (c .before .before .before .before .before .before .before .before .before .before .before .before .before .before .before .before .before .before .before .before .before .before .before .before .before .before .before .pre) _ _ _ _ _ (c .before .before .before .before .before .before .before .before .before .before .before .before .enum-told .given .1) (c .before .before .before .before .before .before .before .audit .ensures) (c .before .before .say-checked .ensures)
+returns-2 c = checking-passed _ _ _ _ _ _ _ _ _ _ (c .before .before .before .before .before .before .before .before .before .before .before .before .before .before .before .before .before .before .before .before .before .before .before .table-in .ensures) (c .before .before .before .before .before .before .before .before .before .before .before .before .before .before .before .before .before .before .before .before .before .read-counts .ensures) (c .before .before .before .before .before .before .before .before .before .before .before .before .before .before .before .before .before .before .before .before .word-count .ensures) (c .before .before .before .before .before .before .before .before .before .before .before .before .before .before .before .before .before .before .before .word-count2 .ensures) _ (c .before .before .before .before .before .before .before .before .before .before .before .before .before .before .before .before .before .check-call-gate .ensures) (c .before .before .before .before .before .before .before .before .before .before .before .before .before .before .before .before .before .before .before .before .before .before .before .before .before .before .before .before .before .before .pre) _ _ _ _ _ _ (c .before .before .before .before .before .before .before .before .before .before .before .before .before .before .before .enum-told .given .1) (c .before .before .before .before .before .before .before .before .before .audit .kept .1 .1 .1 .1 .1 .1 .1 .0) (c .before .before .before .before .before .before .before .before .before .audit .ensures) (c .before .before .say-checked .ensures)
 
 pub check-in-spec : {M : Type 1} → statement M
 check-in-spec =
@@ -67,6 +73,8 @@ check-in-spec =
     enum-known-g
     say-gate-requires
     enum-told
+    slice-aggregate-audit
+    slice-aggregate-audit-2
     audit-requires
     say-checked-requires
     same-length
