@@ -45,7 +45,7 @@ pub extern "C" fn bench_write_image(
 ) -> u64 {
     match write_image(table_of(state), counts, words, flags, label, out) {
         Written::Done { len } => len,
-        Written::Room => 0,
+        Written::Room { need: _ } => 0,
         Written::Dirty { slot: _ } => 0,
         Written::Gate(_) => 0,
     }

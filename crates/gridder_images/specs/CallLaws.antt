@@ -17,6 +17,7 @@ use Rattle.image.specs.Format.{labelMost}
 use Rattle.image_calls.specs.Loading.{loads, loadOf}
 use Rattle.image_calls.specs.declared.loader.Filled.{Filled}
 use Rattle.image_calls.specs.declared.loader.Filled.the-variants as filled
+use Rattle.image_writer.specs.Writing.{writes, writeOf}
 use Rattle.image_writer.specs.declared.writer.Written.{Written}
 use Rattle.lent.specs.Lent.{wordsOf, wordCount}
 use Rattle.lent.specs.LentLaws.{count-some}
@@ -27,7 +28,6 @@ use Rattle.gridder_state.specs.State.{holdsFunnel, tableIn, countsIn, withCount
 use Rattle.gridder_images.specs.Calls.{filledIn, loadLeft, loadCall, sent, writeCallGate, writeStateGate, writeLeft, writeCall}
 use Rattle.gridder_images.specs.Say.{filledFields, filledNumber, writtenFields}
 use Rattle.gridder_images.specs.SayLaws.{loaded-number}
-use Rattle.lent_images.specs.Write.{wrote, wroteOf}
 
 -- ---- loading
 
@@ -121,14 +121,14 @@ module _ (state words flags label image answer : List ℕ) (table : FunnelTable)
         let a : answer' ≡ saying answer [] = ap (λ (r : Reply). r .answer) e in
         rw (n, a) (sym (rw (held, ← write-gate-of, p)))
 
-    pub write-passed : (x : Written) (need : ℕ) (image' : List ℕ) → g ≡ Passed
-        → wrote x need image' ≡ wroteOf (table .n) (table .e) (table .seed) label (wordsOf words) flags image
-        → reply number answer' ≡ reply (writtenReport x .number) (says (writtenFields x need))
+    pub write-passed : (x : Written) (image' : List ℕ) → g ≡ Passed
+        → writes x image' ≡ writeOf (table .n) (table .e) (table .seed) label (wordsOf words) flags image
+        → reply number answer' ≡ reply (writtenReport x .number) (says (writtenFields x))
         → sent number answer' image' ≡ writeCall state words flags label image answer
     unfolding writeCall writeLeft
-    write-passed x need image' p i e =
+    write-passed x image' p i e =
         let n : number ≡ writtenReport x .number = ap (λ (r : Reply). r .number) e in
-        let a : answer' ≡ says (writtenFields x need) = ap (λ (r : Reply). r .answer) e in
+        let a : answer' ≡ says (writtenFields x) = ap (λ (r : Reply). r .answer) e in
         rw (n, a) (sym (rw (held, ← write-gate-of, p, ← t, ← i)))
 
 pub write-unheld : (state words flags label image answer : List ℕ) (number : ℕ) → holdsFunnel state ≡ false → number ≡ numberOf name.State

@@ -12,13 +12,13 @@ use Rattle.image_calls.specs.Calls.{writeGate, loadedOf, loadedReport, writtenR
 use Rattle.image_calls.specs.Loading.{Loads, loadOf}
 use Rattle.image_calls.specs.declared.loader.Filled.{Filled}
 use Rattle.image_calls.specs.declared.loader.Filled.the-variants as filled
+use Rattle.image_writer.specs.Writing.{Writes, writeOf}
 use Rattle.lent.specs.Lent.{wordsOf, wordCount}
 use Rattle.gridder_answer.specs.Gate.{blockGate}
 use Rattle.gridder_answer.specs.Answer.{answerLength, says, saying}
 use Rattle.gridder_calls.specs.Calls.{stateGate, Left, left}
 use Rattle.gridder_state.specs.State.{holdsFunnel, tableIn, countsIn, withCountIn}
 use Rattle.gridder_images.specs.Say.{filledFields, writtenFields}
-use Rattle.lent_images.specs.Write.{Wrotes, wroteOf}
 
 -- ---- loading
 
@@ -61,13 +61,13 @@ writeCallGate table counts words flags label answer =
 abbrev pub writeStateGate : (state words flags label answer : List ℕ) → Gated
 writeStateGate state words flags label answer = writeCallGate (tableIn state) (countsIn state) (wordCount (length words)) (length flags) (length label) (length answer)
 
-unfoldable pub writeLeft : (answer image : List ℕ) → Gated → Wrotes → Sent
+unfoldable pub writeLeft : (answer image : List ℕ) → Gated → Writes → Sent
 writeLeft answer image (Refused g) w = sent (numberOf (nameOf g)) (saying answer []) image
-writeLeft answer image Passed w = sent (writtenReport (w .answer) .number) (says (writtenFields (w .answer) (w .need))) (w .out)
+writeLeft answer image Passed w = sent (writtenReport (w .answer) .number) (says (writtenFields (w .answer))) (w .out)
 
 unfoldable pub writeCall : (state words flags label image answer : List ℕ) → Sent
 writeCall state words flags label image answer =
     pick (holdsFunnel state)
     (writeLeft answer image (writeStateGate state words flags label answer)
-    (wroteOf (tableIn state .n) (tableIn state .e) (tableIn state .seed) label (wordsOf words) flags image))
+    (writeOf (tableIn state .n) (tableIn state .e) (tableIn state .seed) label (wordsOf words) flags image))
     (sent (numberOf name.State) answer image)

@@ -39,8 +39,8 @@ filledNumber (filled.Done count at len) = 0
 
 -- ---- the writer: the image's length also where there is too little room for it
 
-abbrev pub writtenFields : Written → ℕ → List Field
-writtenFields (written.Gate g) need = []
-writtenFields (written.Dirty slot) need = field slotAt slot ∷ []
-writtenFields written.Room need = field imageLengthAt need ∷ []
-writtenFields (written.Done len) need = field imageLengthAt len ∷ []
+abbrev pub writtenFields : Written → List Field
+writtenFields (written.Gate g) = []
+writtenFields (written.Dirty slot) = field slotAt (slot .0) ∷ []
+writtenFields (written.Room need) = field imageLengthAt need ∷ []
+writtenFields (written.Done len) = field imageLengthAt len ∷ []

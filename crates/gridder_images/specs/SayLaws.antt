@@ -15,9 +15,9 @@ module _ (f : Filled) (n : ℕ) (a : List ℕ) where
   pub load-says : (x : Filled) → f ≡ x → n ≡ filledNumber x → a ≡ says (filledFields x) → reply n a ≡ reply (filledNumber f) (says (filledFields f))
   load-says x e p q = rw (e, p, q)
 
-module _ (w : Written) (need n : ℕ) (a : List ℕ) where
-  pub write-says : (x : Written) → w ≡ x → n ≡ writtenReport x .number → a ≡ says (writtenFields x need)
-      → reply n a ≡ reply (writtenReport w .number) (says (writtenFields w need))
+module _ (w : Written) (n : ℕ) (a : List ℕ) where
+  pub write-says : (x : Written) → w ≡ x → n ≡ writtenReport x .number → a ≡ says (writtenFields x)
+      → reply n a ≡ reply (writtenReport w .number) (says (writtenFields w))
   write-says x e p q = rw (e, p, q)
 
 -- the number of a loading is the base's

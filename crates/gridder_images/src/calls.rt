@@ -19,9 +19,9 @@ use gridder_state::state::table_in;
 use gridder_state::state::write_count;
 use image_calls::calls::write_gate;
 use image_calls::loader::Filled;
+use image_calls::loader::load;
+use image_writer::writer::write;
 use lent::word::word_count;
-use lent_images::load::load;
-use lent_images::write::write;
 
 pub fn load_in(
     state: &mut [u8],
@@ -40,7 +40,8 @@ pub fn load_in(
     match call_gate(table, &counts, entries, flags.len() as u64, answer.len()) {
         Gated::Refused(g) => say_gate(answer, g),
         Gated::Passed => {
-            let filled = load(table, words, flags, image);
+            let mut none: [u64; 0] = [];
+            let filled = load(table, &mut none, flags, image, words, true);
             count_loaded(state, filled);
             say_load(answer, filled)
         }
@@ -88,9 +89,9 @@ pub fn write_in(
     match write_call_gate(table, &counts, entries, slots, label.len(), answer.len()) {
         Gated::Refused(g) => say_gate(answer, g),
         Gated::Passed => {
-            let wrote = write(table, words, flags, label, image);
-            let written = wrote.answer;
-            say_write(answer, written, wrote.need)
+            let none: [u64; 0] = [];
+            let written = write(table, &none, flags, label, image, words, true);
+            say_write(answer, written)
         }
     }
 }

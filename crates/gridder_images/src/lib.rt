@@ -1,6 +1,6 @@
 // The calls for C on images of funnel tables: load and write. Carries the images of request 1 of the changes after the base.
 //
-// The loader and the writer over words lent as bytes are in `lent_images`. State block and answer block are those of `gridder_state` and
+// The loader is that of `image_calls`, the writer that of `image_writer`, with bytes lent and no numbers. State block and answer block are those of `gridder_state` and
 // `gridder_answer`; of the answer block these calls use
 //
 //     40   slot, of DIRTY

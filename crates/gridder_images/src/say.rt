@@ -48,17 +48,17 @@ pub fn say_load(answer: &mut [u8], filled: Filled) -> u64
 }
 
 // What a writing comes to. A caller whose output is too short is told the length that the image needs.
-pub fn say_write(answer: &mut [u8], written: Written, need: u64) -> u64
+pub fn say_write(answer: &mut [u8], written: Written) -> u64
     requires { ⌜ length (now answer) ≡ 128 ⌝ }
-    ensures { λ r. ⌜ reply r (now (answer .exit)) ≡ reply (writtenReport written .number) (says (writtenFields written need)) ⌝ }
+    ensures { λ r. ⌜ reply r (now (answer .exit)) ≡ reply (writtenReport written .number) (says (writtenFields written)) ⌝ }
 {
     match written {
         Written::Gate(g) => say_gate(answer, g),
         Written::Dirty { slot } => {
-            say_number(answer, SLOT, slot);
+            say_number(answer, SLOT, slot.0);
             number(Name::Dirty)
         }
-        Written::Room => {
+        Written::Room { need } => {
             say_number(answer, IMAGE_LENGTH, need);
             number(Name::Room)
         }

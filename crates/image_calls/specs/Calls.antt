@@ -75,8 +75,8 @@ loadImageOf table counts words flags image =
 
 abbrev pub writtenReport : Written → Report
 writtenReport (written.Gate g) = refused (nameOf g) []
-writtenReport (written.Dirty slot) = refused name.Dirty (slot ∷ [])
-writtenReport written.Room = refused name.Room []
+writtenReport (written.Dirty slot) = refused name.Dirty (slot .0 ∷ [])
+writtenReport (written.Room need) = refused name.Room []
 writtenReport (written.Done len) = answered (len ∷ [])
 
 abbrev pub loadedReport : Loaded → Report

@@ -1,8 +1,8 @@
 -- Filling, entry by entry and field by field. Assumes nothing.
-use mathlib.Core.Path.{_≡_, refl, sym, _∙_}
+use mathlib.Core.Path.{_≡_, refl, ap, sym, _∙_}
 use mathlib.Core.Bool.{Bool, true, false}
 use mathlib.Core.List.{List, [], _∷_, _++_, append-nil}
-use Prim.Native.Nat.{ℕ, suc, _+_, _-_, _<_, _≤_}
+use Prim.Native.Nat.{ℕ, suc, _+_, _-_, _/_, _<_, _≤_}
 use native.Mathlib.Omega.{arith}
 use lib.ListN.{length, getD, drop, set, replicate, length-set, length-replicate, replicate-append-replicate}
 use lib.Seq.{drop-cons, drop-length, set-at, append-snoc}
@@ -15,6 +15,9 @@ use Rattle.image.specs.Format.{entrySize, Entry, entry}
 use Rattle.image.specs.TestLaws.{not-both}
 use Rattle.image.specs.Reading.{entriesAt, rising}
 use Rattle.image.specs.RiseLaws.{entries-more}
+use Rattle.lent.specs.Lent.{wholeOf, wordsIn}
+use Rattle.lent.specs.LentLaws.{from-zeros}
+use Rattle.lent.specs.StoreLaws.{length-wholes}
 use Rattle.image_calls.specs.Fill.{fillWords, fillFlags, Fills, Fits}
 
 -- what rising entries say of the first
@@ -87,3 +90,20 @@ pub length-fill-flags : (w : List ℕ) (es : List Entry) → length (fillFlags w
 unfolding fillFlags
 length-fill-flags w [] = refl
 length-fill-flags w (x ∷ es) = length-fill-flags (set w (x .slot) 1) es ∙ length-set w (x .slot) 1
+
+-- ---- words set to zero, in whichever slice counts
+
+whole-zeros : (m : ℕ) → wholeOf (replicate m 0) ≡ replicate (m / 8) 0
+unfolding wholeOf
+whole-zeros m = let l : length (replicate {A = ℕ} m 0) ≡ m = length-replicate m 0 in rw l (from-zeros m 0 (m / 8))
+
+module _ (bytes : Bool) (words lent : List ℕ) where
+  pub bytes-zeros : bytes ≡ true → (lent' : List ℕ) → lent' ≡ replicate (length lent) 0 → wordsIn bytes words lent' ≡ replicate (length (wordsIn bytes words lent)) 0
+  unfolding wordsIn
+  bytes-zeros e lent' z =
+      let a : wholeOf lent' ≡ replicate (length lent / 8) 0 = ap wholeOf z ∙ whole-zeros (length lent) in
+      rw e (a ∙ ap (λ (k : ℕ). replicate k 0) (sym (length-wholes lent)))
+
+  pub numbers-zeros : bytes ≡ false → (words' : List ℕ) → words' ≡ replicate (length words) 0 → wordsIn bytes words' lent ≡ replicate (length (wordsIn bytes words lent)) 0
+  unfolding wordsIn
+  numbers-zeros e words' z = rw e z

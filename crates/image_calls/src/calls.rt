@@ -47,7 +47,10 @@ pub fn write_image(
         label.len(),
     ) {
         Gated::Refused(g) => Written::Gate(g),
-        Gated::Passed => write(table, words, flags, label, out),
+        Gated::Passed => {
+            let none: [u8; 0] = [];
+            write(table, words, flags, label, out, &none, false)
+        }
     }
 }
 
@@ -63,7 +66,11 @@ pub fn load_image(
 {
     match table_gate(table, counts, words.len() as u64, flags.len() as u64) {
         Gated::Refused(g) => Loaded::Gate(g),
-        Gated::Passed => with_count(table, load(table, words, flags, image)),
+        Gated::Passed => {
+            let mut none: [u8; 0] = [];
+            let filled = load(table, words, flags, image, &mut none, false);
+            with_count(table, filled)
+        }
     }
 }
 

@@ -7,6 +7,7 @@ ghost use Rattle.image.specs.Format.{entrySize};
 ghost use Rattle.image.specs.Reading.{entriesAt, readOf};
 ghost use Rattle.image_calls.specs.Fill.{isGood, slotsIn, entriesIn, Fills, Fits};
 ghost use Rattle.image_calls.specs.Loading.{ofTable, loads, loadOf};
+ghost use Rattle.lent.specs.Lent.{wordsIn};
 use funnel::table::FunnelTable;
 use image::field::ENTRY_SIZE;
 use image::field::Framed;
@@ -15,6 +16,7 @@ use image::field::low_after;
 use image::reader::Head;
 use image::reader::Outcome;
 use image::reader::read;
+use lent::store::put_word;
 use words::bytes::read64;
 use words::clear::clear_bytes;
 use words::clear::clear_words;
@@ -33,9 +35,16 @@ pub enum Filled {
 }
 
 // The buffers of a table, which have its length, from an image of it.
-pub fn load(table: FunnelTable, words: &mut [u64], flags: &mut [u8], image: &[u8]) -> Filled
-    requires { ⌜ (length (now words) ≡ table .n) × (length (now flags) ≡ table .n) ⌝ }
-    ensures { λ r. ⌜ loads r (now (words .exit)) (now (flags .exit)) ≡ loadOf (table .n) (table .e) (table .seed) (now (words .entry)) (now (flags .entry)) (now (image .entry)) ⌝ }
+pub fn load(
+    table: FunnelTable,
+    words: &mut [u64],
+    flags: &mut [u8],
+    image: &[u8],
+    lent: &mut [u8],
+    bytes: bool,
+) -> Filled
+    requires { ⌜ (length (wordsIn bytes (now words) (now lent)) ≡ table .n) × (length (now flags) ≡ table .n) ⌝ }
+    ensures { λ r. ⌜ loads r (wordsIn bytes (now (words .exit)) (now (lent .exit))) (now (flags .exit)) ≡ loadOf (table .n) (table .e) (table .seed) (wordsIn bytes (now (words .entry)) (now (lent .entry))) (now (flags .entry)) (now (image .entry)) ⌝ }
 {
     let n = table.n;
     let e = table.e as u64;
@@ -50,9 +59,9 @@ pub fn load(table: FunnelTable, words: &mut [u64], flags: &mut [u8], image: &[u8
             if !own(n, e, seed, head) {
                 return Filled::Foreign;
             }
-            clear_words(words);
+            clear_lent(bytes, words, lent);
             clear_bytes(flags);
-            fill_image(image, words, flags);
+            fill_image(image, words, flags, lent, bytes);
             return Filled::Done {
                 count: head.count as u64,
                 label_at: head.label_at as u64,
@@ -60,6 +69,17 @@ pub fn load(table: FunnelTable, words: &mut [u64], flags: &mut [u8], image: &[u8
             };
         }
     }
+}
+
+// Every word becomes 0, in whichever slice counts; the other is empty.
+fn clear_lent(bytes: bool, words: &mut [u64], lent: &mut [u8])
+    ensures { λ r. ⌜ wordsIn bytes (now (words .exit)) (now (lent .exit)) ≡ replicate (length (wordsIn bytes (now (words .entry)) (now (lent .entry)))) 0 ⌝ }
+{
+    if bytes {
+        clear_bytes(lent);
+        return;
+    }
+    clear_words(words);
 }
 
 // Whether an image is of the table (n, e, seed).
@@ -76,9 +96,9 @@ pub fn own(n: u64, e: u64, seed: u64, head: Head) -> bool
 
 // Both buffers hold the entries of a right image besides what they held. A right image has no wrong field, so nothing is
 // tested again.
-fn fill_image(image: &[u8], words: &mut [u64], flags: &mut [u8])
-    requires { ⌜ (isGood (readOf (now image)) ≡ true) × (slotsIn (readOf (now image)) ≤ length (now words)) × (slotsIn (readOf (now image)) ≤ length (now flags)) ⌝ }
-    ensures { λ r. ⌜ Fills (now (words .entry)) (now (flags .entry)) (entriesIn (readOf (now (image .entry)))) (now (words .exit)) (now (flags .exit)) ⌝ }
+fn fill_image(image: &[u8], words: &mut [u64], flags: &mut [u8], lent: &mut [u8], bytes: bool)
+    requires { ⌜ (isGood (readOf (now image)) ≡ true) × (slotsIn (readOf (now image)) ≤ length (wordsIn bytes (now words) (now lent))) × (slotsIn (readOf (now image)) ≤ length (now flags)) ⌝ }
+    ensures { λ r. ⌜ Fills (wordsIn bytes (now (words .entry)) (now (lent .entry))) (now (flags .entry)) (entriesIn (readOf (now (image .entry)))) (wordsIn bytes (now (words .exit)) (now (lent .exit))) (now (flags .exit)) ⌝ }
 {
     let mut low: u8 = 1;
     let mut at: usize = 0;
@@ -95,7 +115,7 @@ fn fill_image(image: &[u8], words: &mut [u64], flags: &mut [u8])
                 low = low_after(tag, len);
                 at = body + len;
                 if tag == 5 {
-                    fill_field(image, body, len / ENTRY_SIZE, words, flags);
+                    fill_field(image, body, len / ENTRY_SIZE, words, flags, lent, bytes);
                 }
             }
         }
@@ -103,17 +123,25 @@ fn fill_image(image: &[u8], words: &mut [u64], flags: &mut [u8])
 }
 
 // The entries of a field whose slots are known to be right.
-fn fill_field(image: &[u8], at: usize, count: usize, words: &mut [u64], flags: &mut [u8])
-    requires { ⌜ (at + entrySize * count ≤ length (now image)) × Fits (entriesAt (now image) at count) (length (now words)) (length (now flags)) ⌝ }
-    ensures { λ r. ⌜ Fills (now (words .entry)) (now (flags .entry)) (entriesAt (now (image .entry)) at count) (now (words .exit)) (now (flags .exit)) ⌝ }
+fn fill_field(
+    image: &[u8],
+    at: usize,
+    count: usize,
+    words: &mut [u64],
+    flags: &mut [u8],
+    lent: &mut [u8],
+    bytes: bool,
+)
+    requires { ⌜ (at + entrySize * count ≤ length (now image)) × Fits (entriesAt (now image) at count) (length (wordsIn bytes (now words) (now lent))) (length (now flags)) ⌝ }
+    ensures { λ r. ⌜ Fills (wordsIn bytes (now (words .entry)) (now (lent .entry))) (now (flags .entry)) (entriesAt (now (image .entry)) at count) (wordsIn bytes (now (words .exit)) (now (lent .exit))) (now (flags .exit)) ⌝ }
 {
     let mut p = at;
     let mut left = count;
     while 0 < left {
-        let slot = read64(image, p) as usize;
+        let slot = read64(image, p);
         let identity = read64(image, p + 8);
-        words[slot] = identity;
-        flags[slot] = 1;
+        put_word(bytes, words, lent, slot, identity);
+        flags[slot as usize] = 1;
         p += ENTRY_SIZE;
         left -= 1;
     }

@@ -49,15 +49,15 @@ wrote-all n e seed label words flags out len out' h = go (scanOf words flags) re
     image : List ℕ
     image = imageOf n e seed label (entriesOf words flags)
 
-    done : (c : ℕ) → scanOf words flags ≡ Clean c → (z : Bool) → pick z (writes written.Room out) (writes (written.Done (length image)) (onto image out)) ≡ writes (written.Done len) out' → WroteAll words flags image out len out'
-    done c e true h = let q : written.Room ≡ written.Done len = ap (λ (w : Writes). w .answer) h in let z : _≡_ {A = ℕ} 0 1 = cc in absurd (omega arith)
+    done : (c : ℕ) → scanOf words flags ≡ Clean c → (z : Bool) → pick z (writes (written.Room (length image)) out) (writes (written.Done (length image)) (onto image out)) ≡ writes (written.Done len) out' → WroteAll words flags image out len out'
+    done c e true h = let q : written.Room (length image) ≡ written.Done len = ap (λ (w : Writes). w .answer) h in let z : _≡_ {A = ℕ} 0 1 = cc in absurd (omega arith)
     done c e false h =
         let q : written.Done (length image) ≡ written.Done len = ap (λ (w : Writes). w .answer) h in
         let l : length image ≡ len = cc in
         record { count = c; clean = e; length-is = sym l; out-is = sym (ap (λ (w : Writes). w .out) h) }
 
     go : (s : Scan) → scanOf words flags ≡ s → writeAfter s image out ≡ writes (written.Done len) out' → WroteAll words flags image out len out'
-    go (Dirty s) e h = let q : written.Dirty s ≡ written.Done len = ap (λ (w : Writes). w .answer) h in let z : _≡_ {A = ℕ} 0 1 = cc in absurd (omega arith)
+    go (Dirty s) e h = let q : written.Dirty (record { 0 = s }) ≡ written.Done len = ap (λ (w : Writes). w .answer) h in let z : _≡_ {A = ℕ} 0 1 = cc in absurd (omega arith)
     go (Clean c) e h = done c e (ltb (length out) (length image)) h
 
 -- ---- what the writer wrote, the loader reads back

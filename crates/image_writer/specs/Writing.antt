@@ -23,10 +23,11 @@ writes a out = record { answer = a; out = out }
 abbrev pub onto : List ℕ → List ℕ → List ℕ
 onto image out = image ++ drop (length image) out
 
--- "Image writer: 22, 26"
+-- "Image writer: 22, 26"; ROOM tells the length that the image needs
 unfoldable pub writeAfter : Scan → List ℕ → List ℕ → Writes
-writeAfter (Dirty s) image out = writes (written.Dirty s) out
-writeAfter (Clean c) image out = pick (ltb (length out) (length image)) (writes written.Room out) (writes (written.Done (length image)) (onto image out))
+writeAfter (Dirty s) image out = writes (written.Dirty (record { 0 = s })) out
+writeAfter (Clean c) image out =
+    pick (ltb (length out) (length image)) (writes (written.Room (length image)) out) (writes (written.Done (length image)) (onto image out))
 
 unfoldable pub writeOf : ℕ → ℕ → ℕ → List ℕ → List ℕ → List ℕ → List ℕ → Writes
 writeOf n e seed label words flags out = writeAfter (scanOf words flags) (imageOf n e seed label (entriesOf words flags)) out

@@ -16,7 +16,7 @@ use Rattle.image_writer.specs.declared.dirty.Scan.the-variants.{Dirty, C
 use Rattle.image_writer.specs.declared.writer.Written.the-variants as written
 
 module _ (n e seed : ℕ) (label words flags out : List ℕ) where
-  pub writes-dirty : (s : ℕ) → scanOf words flags ≡ Dirty s → writes (written.Dirty s) out ≡ writeOf n e seed label words flags out
+  pub writes-dirty : (s : ℕ) → scanOf words flags ≡ Dirty s → writes (written.Dirty (record { 0 = s })) out ≡ writeOf n e seed label words flags out
   unfolding writeOf writeAfter
   writes-dirty s h = rw h
 
@@ -24,9 +24,9 @@ module _ (n e seed : ℕ) (label words flags out : List ℕ) where
     size-is : sizeOf (length label) c ≡ length (imageOf n e seed label (entriesOf words flags))
     size-is = ap (λ (x : ℕ). sizeOf (length label) x) (count-is words flags c h) ∙ sym (length-image n e seed label (entriesOf words flags))
 
-    pub writes-room : length out < sizeOf (length label) c → writes written.Room out ≡ writeOf n e seed label words flags out
+    pub writes-room : length out < sizeOf (length label) c → writes (written.Room (sizeOf (length label) c)) out ≡ writeOf n e seed label words flags out
     unfolding writeOf writeAfter
-    writes-room r = let z : length out < length (imageOf n e seed label (entriesOf words flags)) = rw size-is at r in rw (h, lt-ltb _ _ z)
+    writes-room r = let z : length out < length (imageOf n e seed label (entriesOf words flags)) = rw size-is at r in rw (h, size-is, lt-ltb _ _ z)
 
     pub writes-done : sizeOf (length label) c ≤ length out → (after : List ℕ) → after ≡ sets out 0 (imageOf n e seed label (entriesOf words flags))
         → writes (written.Done (sizeOf (length label) c)) after ≡ writeOf n e seed label words flags out

@@ -2,6 +2,8 @@
 ghost use mathlib.Core.Path.{_≡_};
 ghost use lib.ListN.{length};
 ghost use Rattle.image_writer.specs.Dirty.{scanOf};
+ghost use Rattle.lent.specs.Lent.{wordsIn};
+use lent::store::word;
 
 // The smallest dirty slot, or the number of occupied slots of a table that has none.
 pub enum Scan {
@@ -10,9 +12,9 @@ pub enum Scan {
 }
 
 // The smallest dirty slot, else the number of occupied slots.
-pub fn scan_table(words: &[u64], flags: &[u8]) -> Scan
-    requires { ⌜ length (now words) ≡ length (now flags) ⌝ }
-    ensures { λ r. ⌜ r ≡ scanOf (now (words .entry)) (now (flags .entry)) ⌝ }
+pub fn scan_table(words: &[u64], flags: &[u8], lent: &[u8], bytes: bool) -> Scan
+    requires { ⌜ length (wordsIn bytes (now words) (now lent)) ≡ length (now flags) ⌝ }
+    ensures { λ r. ⌜ r ≡ scanOf (wordsIn bytes (now (words .entry)) (now (lent .entry))) (now (flags .entry)) ⌝ }
 {
     let n = flags.len();
     let mut s = 0;
@@ -25,7 +27,7 @@ pub fn scan_table(words: &[u64], flags: &[u8]) -> Scan
             return Scan::Dirty { slot };
         }
         if flag == 0 {
-            if words[slot] != 0 {
+            if word(bytes, words, lent, slot as u64) != 0 {
                 return Scan::Dirty { slot };
             }
         } else {

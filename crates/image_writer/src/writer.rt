@@ -8,21 +8,24 @@ ghost use Rattle.words.specs.Bytes.{bytesOf};
 ghost use Rattle.image.specs.Format.{entrySize, labelMost, entryBytes, fieldOf, labelField, fieldsFor, imageOf};
 ghost use Rattle.image_writer.specs.Pieces.{entriesTo, Put, PutEntries, PutFields, chunk, sizeOf};
 ghost use Rattle.image_writer.specs.Writing.{writes, writeOf};
+ghost use Rattle.lent.specs.Lent.{wordsIn};
 use crate::dirty::Scan;
 use crate::dirty::scan_table;
 use funnel::table::FunnelTable;
 use image::field::ENTRY_SIZE;
 use image::field::FIELD_ENTRIES;
+use lent::store::word;
 use refusal::Gate;
 use words::bytes::write16;
 use words::bytes::write32;
 use words::bytes::write64;
+use words::place::GlobalSlot;
 
-// What the writer answers: a refusal of the gate, DIRTY with the smallest dirty slot, ROOM, or the image's length.
+// What the writer answers: a refusal of the gate, DIRTY with the smallest dirty slot, ROOM with the length that the image needs, or the image's length.
 pub enum Written {
     Gate(Gate),
-    Dirty { slot: u64 },
-    Room,
+    Dirty { slot: GlobalSlot },
+    Room { need: u64 },
     Done { len: u64 },
 }
 
@@ -33,20 +36,24 @@ pub fn write(
     flags: &[u8],
     label: &[u8],
     out: &mut [u8],
+    lent: &[u8],
+    bytes: bool,
 ) -> Written
-    requires { ⌜ (length (now words) ≡ length (now flags)) × (length (now flags) ≤ 2 ^ 32) × (length (now label) ≤ labelMost) ⌝ }
-    ensures { λ r. ⌜ writes r (now (out .exit)) ≡ writeOf (table .n) (table .e) (table .seed) (now (label .entry)) (now (words .entry)) (now (flags .entry)) (now (out .entry)) ⌝ }
+    requires { ⌜ (length (wordsIn bytes (now words) (now lent)) ≡ length (now flags)) × (length (now flags) ≤ 2 ^ 32) × (length (now label) ≤ labelMost) ⌝ }
+    ensures { λ r. ⌜ writes r (now (out .exit)) ≡ writeOf (table .n) (table .e) (table .seed) (now (label .entry)) (wordsIn bytes (now (words .entry)) (now (lent .entry))) (now (flags .entry)) (now (out .entry)) ⌝ }
 {
-    match scan_table(words, flags) {
+    match scan_table(words, flags, lent, bytes) {
         Scan::Dirty { slot } => {
-            return Written::Dirty { slot: slot as u64 };
+            return Written::Dirty {
+                slot: GlobalSlot(slot as u64),
+            };
         }
         Scan::Clean { count } => {
             let need = image_size(label.len(), count);
             if out.len() < need {
-                return Written::Room;
+                return Written::Room { need: need as u64 };
             }
-            write_all(table, words, flags, label, count, out);
+            write_all(table, words, flags, label, count, out, lent, bytes);
             return Written::Done { len: need as u64 };
         }
     }
@@ -73,9 +80,11 @@ fn write_all(
     label: &[u8],
     count: usize,
     out: &mut [u8],
+    lent: &[u8],
+    bytes: bool,
 )
-    requires { ⌜ (length (now words) ≡ length (now flags)) × (count ≡ length (entriesTo (now words) (now flags) 0)) × (length (now label) ≤ labelMost) × (sizeOf (length (now label)) count ≤ length (now out)) ⌝ }
-    ensures { λ r. ⌜ now (out .exit) ≡ sets (now (out .entry)) 0 (imageOf (table .n) (table .e) (table .seed) (now (label .entry)) (entriesTo (now (words .entry)) (now (flags .entry)) 0)) ⌝ }
+    requires { ⌜ (length (wordsIn bytes (now words) (now lent)) ≡ length (now flags)) × (count ≡ length (entriesTo (wordsIn bytes (now words) (now lent)) (now flags) 0)) × (length (now label) ≤ labelMost) × (sizeOf (length (now label)) count ≤ length (now out)) ⌝ }
+    ensures { λ r. ⌜ now (out .exit) ≡ sets (now (out .entry)) 0 (imageOf (table .n) (table .e) (table .seed) (now (label .entry)) (entriesTo (wordsIn bytes (now (words .entry)) (now (lent .entry))) (now (flags .entry)) 0)) ⌝ }
 {
     let n = table.n;
     let e = table.e as u64;
@@ -85,7 +94,7 @@ fn write_all(
     write_field4(out, 11, 2, e);
     write_field8(out, 18, 3, seed);
     let p = write_label(label, out, 29);
-    let q = write_fields(words, flags, count, out, p);
+    let q = write_fields(words, flags, count, out, p, lent, bytes);
     write_field8(out, q, 6, entries);
 }
 
@@ -144,9 +153,17 @@ fn copy_in(part: &[u8], out: &mut [u8], at: usize)
 }
 
 // The fields of entries; the offset after them.
-fn write_fields(words: &[u64], flags: &[u8], count: usize, out: &mut [u8], at: usize) -> usize
-    requires { ⌜ (length (now words) ≡ length (now flags)) × (count ≡ length (entriesTo (now words) (now flags) 0)) × (at + entrySize * count + 3 * fieldsFor count ≤ length (now out)) ⌝ }
-    ensures { λ r. ⌜ PutFields (now (words .entry)) (now (flags .entry)) count (now (out .entry)) at (now (out .exit)) r ⌝ }
+fn write_fields(
+    words: &[u64],
+    flags: &[u8],
+    count: usize,
+    out: &mut [u8],
+    at: usize,
+    lent: &[u8],
+    bytes: bool,
+) -> usize
+    requires { ⌜ (length (wordsIn bytes (now words) (now lent)) ≡ length (now flags)) × (count ≡ length (entriesTo (wordsIn bytes (now words) (now lent)) (now flags) 0)) × (at + entrySize * count + 3 * fieldsFor count ≤ length (now out)) ⌝ }
+    ensures { λ r. ⌜ PutFields (wordsIn bytes (now (words .entry)) (now (lent .entry))) (now (flags .entry)) count (now (out .entry)) at (now (out .exit)) r ⌝ }
 {
     let mut s = 0;
     let mut left = count;
@@ -154,7 +171,7 @@ fn write_fields(words: &[u64], flags: &[u8], count: usize, out: &mut [u8], at: u
     while 0 < left {
         let m = chunk_of(left);
         write_head(out, p, 5, (ENTRY_SIZE * m) as u64);
-        s = write_entries(words, flags, s, m, out, p + 3);
+        s = write_entries(words, flags, s, m, out, p + 3, lent, bytes);
         p = p + 3 + ENTRY_SIZE * m;
         left = left - m;
     }
@@ -180,9 +197,11 @@ fn write_entries(
     m: usize,
     out: &mut [u8],
     at: usize,
+    lent: &[u8],
+    bytes: bool,
 ) -> usize
-    requires { ⌜ (length (now words) ≡ length (now flags)) × (m ≤ length (entriesTo (now words) (now flags) from)) × (at + entrySize * m ≤ length (now out)) × (from ≤ length (now flags)) ⌝ }
-    ensures { λ r. ⌜ PutEntries (now (words .entry)) (now (flags .entry)) from m (now (out .entry)) at (now (out .exit)) r ⌝ }
+    requires { ⌜ (length (wordsIn bytes (now words) (now lent)) ≡ length (now flags)) × (m ≤ length (entriesTo (wordsIn bytes (now words) (now lent)) (now flags) from)) × (at + entrySize * m ≤ length (now out)) × (from ≤ length (now flags)) ⌝ }
+    ensures { λ r. ⌜ PutEntries (wordsIn bytes (now (words .entry)) (now (lent .entry))) (now (flags .entry)) from m (now (out .entry)) at (now (out .exit)) r ⌝ }
 {
     let mut s = from;
     let mut left = m;
@@ -191,7 +210,7 @@ fn write_entries(
         let slot = s;
         s += 1;
         if flags[slot] != 0 {
-            let identity = words[slot];
+            let identity = word(bytes, words, lent, slot as u64);
             write_entry(out, p, slot as u64, identity);
             p += ENTRY_SIZE;
             left -= 1;

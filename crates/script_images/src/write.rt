@@ -75,8 +75,8 @@ fn written_in(
 fn of_written(answer: Written) -> Said {
     match answer {
         Written::Gate(gate) => say_gate(gate),
-        Written::Dirty { slot } => say_refused_with(Name::Dirty, slot),
-        Written::Room => say_refused(Name::Room),
+        Written::Dirty { slot } => say_refused_with(Name::Dirty, slot.0),
+        Written::Room { need: _ } => say_refused(Name::Room),
         Written::Done { len } => say_fields(OK, 1, len, 0, 0),
     }
 }

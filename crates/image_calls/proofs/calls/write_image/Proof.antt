@@ -1,4 +1,5 @@
 -- `image_calls::calls::write_image` meets its contract. Assumes nothing.
+use Rattle.lent.specs.Lent.{wordsIn}
 use denote.Ref.{now}
 use mathlib.Core.Path.{sym, _∙_}
 use native.Mathlib.Omega.{arith}
@@ -16,9 +17,13 @@ enum-known-g c = search needs
 enum-told : tie.Need-enum-told
 enum-told c = search needs
 
+slice-aggregate-write : tie.Need-slice-aggregate-write
+slice-aggregate-write c = search needs
+
 write-requires : tie.Need-write-requires
-write-requires c κs = let s = c .before .before .before .before .before .before .before .before .args in
-    let w = gate-writable (s .table) (now (s .counts)) (now (s .words)) (now (s .flags)) (now (s .label)) (sym (c .before .before .before .write-gate .ensures) ∙ c .before .enum-told .given .1) in
+unfolding wordsIn
+write-requires c κs = let s = c .before .before .before .before .before .before .before .before .before .args in
+    let w = gate-writable (s .table) (now (s .counts)) (now (s .words)) (now (s .flags)) (now (s .label)) (sym (c .before .before .before .before .write-gate .ensures) ∙ c .before .before .enum-told .given .1) in
     let v = w .valid in
     let m = v .planned .configured .most in
     (v .words-length ∙ sym (v .flags-length), omega (arith, v .flags-length), w .short)
@@ -30,7 +35,8 @@ same-length : tie.Need-same-length
 same-length c = search needs
 
 returns-2 : tie.Need-returns-2
-returns-2 c = write-passed _ _ _ _ _ _ (sym (c .before .before .before .before .before .before .write-gate .ensures) ∙ c .before .before .before .before .enum-told .given .1) _ (c .before .before .write .ensures)
+unfolding wordsIn
+returns-2 c = write-passed _ _ _ _ _ _ (sym (c .before .before .before .before .before .before .before .write-gate .ensures) ∙ c .before .before .before .before .before .enum-told .given .1) _ (c .before .before .write .ensures)
 
 pub write-image-spec : {M : Type 1} → statement M
 write-image-spec =
@@ -39,6 +45,7 @@ write-image-spec =
     write-gate-requires
     enum-known-g
     enum-told
+    slice-aggregate-write
     write-requires
     returns
     same-length

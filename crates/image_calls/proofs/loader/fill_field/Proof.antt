@@ -1,5 +1,7 @@
 -- `image_calls::loader::fill_field` meets its contract. The loop's invariant: the entries left fill to what all entries fill to, and their slots are in both buffers.
 -- The measure is their number. Assumes nothing.
+use mathlib.Core.Path.{_≡_, refl, _∙_}
+use Rattle.lent.specs.Lent.{wordsIn}
 use Rattle.image.specs.Format.{entrySize}
 use Rattle.image_calls.specs.FillLaws.{Filling, filling-none, filling-slot, filling-more, filling-end}
 use lib.ListN.{length}
@@ -9,13 +11,15 @@ use Rattle.image_calls.proofs.loader.fill_field.Statement.{statement}
 use Rattle.image_calls.proofs.loader.fill_field.Tie as tie
 
 abbrev Inv-loop : tie.InvT-loop
-Inv-loop image at count words₀ flags₀ p₀ left₀ words flags p left = (p + entrySize * left ≤ length image) × Filling image at count words₀ flags₀ words flags p left
+Inv-loop image at count words₀ flags₀ lent₀ bytes p₀ left₀ words flags lent p left =
+    (p + entrySize * left ≤ length image) × Filling image at count (wordsIn bytes words₀ lent₀) flags₀ (wordsIn bytes words lent) flags p left
+    × (length words ≡ length words₀) × (length lent ≡ length lent₀)
 
 abbrev μ-loop : tie.MeasureT-loop
-μ-loop image at count words₀ flags₀ p₀ left₀ words flags p left = left
+μ-loop image at count words₀ flags₀ lent₀ bytes p₀ left₀ words flags lent p left = left
 
 loop-holds : tie.Need-loop-holds Inv-loop μ-loop
-loop-holds c = let q = c .before .before .before .pre in (q .0, filling-none _ _ _ _ _ (q .1))
+loop-holds c = let q = c .before .before .before .before .pre in (q .0, filling-none _ _ _ _ _ (q .1), refl, refl)
 
 read64-requires : tie.Need-read64-requires Inv-loop μ-loop
 read64-requires c κs = omega arith
@@ -26,14 +30,11 @@ add-read64 c = omega arith
 read64-requires-2 : tie.Need-read64-requires-2 Inv-loop μ-loop
 read64-requires-2 c κs = omega arith
 
-mul-words : tie.Need-mul-words Inv-loop μ-loop
-mul-words c = let q = filling-slot (c .before .before .before .loop .inv .1) (c .before .before .loop-test .taken) in omega arith
-
-slice-write-words : tie.Need-slice-write-words Inv-loop μ-loop
-slice-write-words c = let q = filling-slot (c .before .before .before .loop .inv .1) (c .before .before .loop-test .taken) in omega arith
+put-word-requires : tie.Need-put-word-requires Inv-loop μ-loop
+put-word-requires c κs = let q = filling-slot (c .before .before .before .before .before .loop .inv .1) (c .before .before .before .before .loop-test .taken) in let e = c .before .before .before .read64 .ensures in omega arith
 
 slice-write-flags : tie.Need-slice-write-flags Inv-loop μ-loop
-slice-write-flags c = let q = filling-slot (c .before .before .before .loop .inv .1) (c .before .before .loop-test .taken) in omega arith
+slice-write-flags c = let q = filling-slot (c .before .before .before .before .before .before .before .before .before .before .loop .inv .1) (c .before .before .before .before .before .before .before .before .before .loop-test .taken) in let e = c .before .before .before .before .before .before .before .before .read64 .ensures in omega arith
 
 add-p : tie.Need-add-p Inv-loop μ-loop
 add-p c = omega arith
@@ -45,13 +46,16 @@ loop-less : tie.Need-loop-less Inv-loop μ-loop
 loop-less c = omega arith
 
 loop-again : tie.Need-loop-again Inv-loop μ-loop
-loop-again c = (omega arith, rw (c .before .read64 .ensures, c .read642 .ensures) (filling-more (c .before .before .before .loop .inv .1) (c .before .before .loop-test .taken)))
+loop-again c = (omega arith, rw (c .before .before .before .before .put-word .ensures, c .before .before .before .before .before .before .before .before .read64 .ensures, c .before .before .before .before .before .before .before .read642 .ensures) (filling-more (c .before .before .before .before .before .before .before .before .before .before .loop .inv .1) (c .before .before .before .before .before .before .before .before .before .loop-test .taken)), c .before .before .before .before .put-word .kept .1 .0 ∙ c .before .before .before .before .before .before .before .before .before .before .loop .inv .2, c .before .before .before .before .put-word .kept .1 .1 .0 ∙ c .before .before .before .before .before .before .before .before .before .before .loop .inv .3)
 
 same-length : tie.Need-same-length Inv-loop μ-loop
-same-length c = c .before .loop .inv .1 .sizeW
+same-length c = c .before .loop .inv .2
 
 same-length-2 : tie.Need-same-length-2 Inv-loop μ-loop
 same-length-2 c = c .before .loop .inv .1 .sizeF
+
+same-length-3 : tie.Need-same-length-3 Inv-loop μ-loop
+same-length-3 c = c .before .loop .inv .3
 
 returns : tie.Need-returns Inv-loop μ-loop
 returns c = filling-end (c .before .loop .inv .1) (omega arith)
@@ -66,8 +70,7 @@ fill-field-spec =
     read64-requires
     add-read64
     read64-requires-2
-    mul-words
-    slice-write-words
+    put-word-requires
     slice-write-flags
     add-p
     sub-left
@@ -75,4 +78,5 @@ fill-field-spec =
     loop-again
     same-length
     same-length-2
+    same-length-3
     returns)

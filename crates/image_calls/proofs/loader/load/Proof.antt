@@ -29,17 +29,17 @@ own-requires c κs = search needs
 returns-2 : tie.Need-returns-2
 returns-2 c = loads-foreign _ _ _ _ _ _ _ (sym (c .before .before .before .before .before .read .ensures) ∙ c .before .before .before .head .given .1) (sym (c .before .own .ensures) ∙ not-true _ (c .if1 .taken))
 
-clear-words-requires : tie.Need-clear-words-requires
-clear-words-requires c κs = search needs
+clear-lent-requires : tie.Need-clear-lent-requires
+clear-lent-requires c κs = search needs
 
 clear-bytes-requires : tie.Need-clear-bytes-requires
 clear-bytes-requires c κs = search needs
 
 fill-image-requires : tie.Need-fill-image-requires
-fill-image-requires c κs = let p = c .before .before .before .before .before .before .before .before .before .before .before .before .before .before .before .before .before .before .before .before .pre in
-    let r = sym (c .before .before .before .before .before .before .before .before .before .before .before .before .before .before .before .read .ensures) ∙ c .before .before .before .before .before .before .before .before .before .before .before .before .before .head .given .1 in
-    let k = slots-are _ _ r _ _ _ (sym (c .before .before .before .before .before .before .before .before .before .before .before .own .ensures) ∙ not-false _ (c .before .before .before .before .before .before .before .before .before .before .if1 .left)) in
-    (good-is _ _ r, rw (c .before .before .before .before .before .before .before .before .clear-words .ensures, length-replicate) (omega (arith, p .0, k)), rw (c .before .before .before .before .clear-bytes .ensures, length-replicate) (omega (arith, p .1, k)))
+fill-image-requires c κs = let p = c .before .before .before .before .before .before .before .before .before .before .before .before .before .before .before .before .before .before .before .before .before .before .before .before .before .pre in
+    let r = sym (c .before .before .before .before .before .before .before .before .before .before .before .before .before .before .before .before .before .before .before .read .ensures) ∙ c .before .before .before .before .before .before .before .before .before .before .before .before .before .before .before .before .before .head .given .1 in
+    let k = slots-are _ _ r _ _ _ (sym (c .before .before .before .before .before .before .before .before .before .before .before .before .before .before .before .own .ensures) ∙ not-false _ (c .before .before .before .before .before .before .before .before .before .before .before .before .before .before .if1 .left)) in
+    (good-is _ _ r, rw (c .before .before .before .before .before .before .before .before .before .before .before .clear-lent .ensures, length-replicate) (omega (arith, p .0, k)), rw (c .before .before .before .before .before .clear-bytes .ensures, length-replicate) (omega (arith, p .1, k)))
 
 same-length : tie.Need-same-length
 same-length c = search needs
@@ -47,10 +47,13 @@ same-length c = search needs
 same-length-2 : tie.Need-same-length-2
 same-length-2 c = search needs
 
+same-length-3 : tie.Need-same-length-3
+same-length-3 c = search needs
+
 returns-3 : tie.Need-returns-3
-returns-3 c = let r = sym (c .before .before .before .before .before .before .before .before .before .before .before .before .before .before .before .before .before .before .before .before .read .ensures) ∙ c .before .before .before .before .before .before .before .before .before .before .before .before .before .before .before .before .before .before .head .given .1 in
-    let o = sym (c .before .before .before .before .before .before .before .before .before .before .before .before .before .before .before .before .own .ensures) ∙ not-false _ (c .before .before .before .before .before .before .before .before .before .before .before .before .before .before .before .if1 .left) in
-    loads-done _ _ _ _ _ _ _ r o _ _ (rw (c .before .before .before .before .before .before .before .before .before .before .before .before .before .clear-words .ensures, c .before .before .before .before .before .before .before .before .before .clear-bytes .ensures) at (c .before .before .before .before .fill-image .ensures))
+returns-3 c = let r = sym (c .before .before .before .before .before .before .before .before .before .before .before .before .before .before .before .before .before .before .before .before .before .before .before .before .before .before .read .ensures) ∙ c .before .before .before .before .before .before .before .before .before .before .before .before .before .before .before .before .before .before .before .before .before .before .before .before .head .given .1 in
+    let o = sym (c .before .before .before .before .before .before .before .before .before .before .before .before .before .before .before .before .before .before .before .before .before .before .own .ensures) ∙ not-false _ (c .before .before .before .before .before .before .before .before .before .before .before .before .before .before .before .before .before .before .before .before .before .if1 .left) in
+    loads-done _ _ _ _ _ _ _ r o _ _ (rw (c .before .before .before .before .before .before .before .before .before .before .before .before .before .before .before .before .before .before .clear-lent .ensures, c .before .before .before .before .before .before .before .before .before .before .before .before .clear-bytes .ensures) at (c .before .before .before .before .before .before .fill-image .ensures))
 
 pub load-spec : {M : Type 1} → statement M
 load-spec =
@@ -63,9 +66,10 @@ load-spec =
     enum-known-head
     own-requires
     returns-2
-    clear-words-requires
+    clear-lent-requires
     clear-bytes-requires
     fill-image-requires
     same-length
     same-length-2
+    same-length-3
     returns-3)

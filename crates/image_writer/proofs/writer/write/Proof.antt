@@ -21,13 +21,13 @@ enum-known-count : tie.Need-enum-known-count
 enum-known-count c = search needs
 
 image-size-requires : tie.Need-image-size-requires
-image-size-requires c κs = let m = count-most _ _ _ (sym (c .before .before .before .scan-table .ensures) ∙ c .before .count .given .1) in (c .before .before .before .before .before .before .before .before .pre .2, omega (arith, c .before .before .before .before .before .before .before .before .pre .1))
+image-size-requires c κs = let m = count-most _ _ _ (sym (c .before .before .before .scan-table .ensures) ∙ c .before .count .given .1) in (c .before .before .before .before .before .before .before .before .before .pre .2, omega (arith, c .before .before .before .before .before .before .before .before .before .pre .1))
 
 returns-2 : tie.Need-returns-2
-returns-2 c = writes-room _ _ _ _ _ _ _ _ (sym (c .before .before .before .before .before .scan-table .ensures) ∙ c .before .before .before .count .given .1) (rw (c .before .image-size .ensures) at (c .if1 .taken))
+returns-2 c = rw (c .before .image-size .ensures) (writes-room _ _ _ _ _ _ _ _ (sym (c .before .before .before .before .before .scan-table .ensures) ∙ c .before .before .before .count .given .1) (rw (c .before .image-size .ensures) at (c .if1 .taken)))
 
 write-all-requires : tie.Need-write-all-requires
-write-all-requires c κs = let p = c .before .before .before .before .before .before .before .before .before .before .before .pre in (p .0, rw entries-whole (count-is _ _ _ (sym (c .before .before .before .before .before .before .scan-table .ensures) ∙ c .before .before .before .before .count .given .1)), p .2, rw (c .before .before .image-size .ensures) at (c .before .if1 .left))
+write-all-requires c κs = let p = c .before .before .before .before .before .before .before .before .before .before .before .before .pre in (p .0, rw entries-whole (count-is _ _ _ (sym (c .before .before .before .before .before .before .scan-table .ensures) ∙ c .before .before .before .before .count .given .1)), p .2, rw (c .before .before .image-size .ensures) at (c .before .if1 .left))
 
 same-length : tie.Need-same-length
 same-length c = search needs

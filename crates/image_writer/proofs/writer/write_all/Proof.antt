@@ -11,35 +11,35 @@ cast-e c = search needs
 
 write-field8-requires : tie.Need-write-field8-requires
 write-field8-requires c κs =
-    let s = c .before .before .before .before .before .before in
+    let s = c .before .before .before .before .before .before .before in
     let z = size-parts (now (s .args .label)) (s .args .count) in
     let q = s .pre .3 in
     omega arith
 
 write-field4-requires : tie.Need-write-field4-requires
 write-field4-requires c κs =
-    let s = c .before .before .before .before .before .before .before .before .before .before in
+    let s = c .before .before .before .before .before .before .before .before .before .before .before in
     let z = size-parts (now (s .args .label)) (s .args .count) in
     let q = s .pre .3 in
     omega arith
 
 write-field8-requires-2 : tie.Need-write-field8-requires-2
 write-field8-requires-2 c κs =
-    let s = c .before .before .before .before .before .before .before .before .before .before .before .before .before .before in
+    let s = c .before .before .before .before .before .before .before .before .before .before .before .before .before .before .before in
     let z = size-parts (now (s .args .label)) (s .args .count) in
     let q = s .pre .3 in
     omega arith
 
 write-label-requires : tie.Need-write-label-requires
 write-label-requires c κs =
-    let s = c .before .before .before .before .before .before .before .before .before .before .before .before .before .before .before .before .before .before in
+    let s = c .before .before .before .before .before .before .before .before .before .before .before .before .before .before .before .before .before .before .before in
     let z = size-parts (now (s .args .label)) (s .args .count) in
     let q = s .pre .3 in
     (omega arith, s .pre .2)
 
 write-fields-requires : tie.Need-write-fields-requires
 write-fields-requires c κs =
-    let s = c .before .before .before .before .before .before .before .before .before .before .before .before .before .before .before .before .before .before .before .before .before .before in
+    let s = c .before .before .before .before .before .before .before .before .before .before .before .before .before .before .before .before .before .before .before .before .before .before .before in
     let z = size-parts (now (s .args .label)) (s .args .count) in
     let q = s .pre .3 in
     let n = c .before .before .before .write-label .ensures .next-is in
@@ -47,8 +47,8 @@ write-fields-requires c κs =
 
 write-field8-requires-3 : tie.Need-write-field8-requires-3
 write-field8-requires-3 c κs =
-    let z = size-parts (now (c .before .before .before .before .before .before .before .before .before .before .before .before .before .before .before .before .before .before .before .before .before .before .before .before .before .before .args .label)) (c .before .before .before .before .before .before .before .before .before .before .before .before .before .before .before .before .before .before .before .before .before .before .before .before .before .before .args .count) in
-    let q = c .before .before .before .before .before .before .before .before .before .before .before .before .before .before .before .before .before .before .before .before .before .before .before .before .before .before .pre .3 in
+    let z = size-parts (now (c .before .before .before .before .before .before .before .before .before .before .before .before .before .before .before .before .before .before .before .before .before .before .before .before .before .before .before .args .label)) (c .before .before .before .before .before .before .before .before .before .before .before .before .before .before .before .before .before .before .before .before .before .before .before .before .before .before .before .args .count) in
+    let q = c .before .before .before .before .before .before .before .before .before .before .before .before .before .before .before .before .before .before .before .before .before .before .before .before .before .before .before .pre .3 in
     let n = c .before .before .before .before .before .before .before .write-label .ensures .next-is in
     let m = c .before .before .before .write-fields .ensures .next-is in
     omega arith
@@ -58,7 +58,7 @@ same-length c = search needs
 
 returns : tie.Need-returns
 returns c =
-    let k = c .before .before .before .before .before .before .before .before .before .before .before .before .before .before .before .before .before .before .before .before .before .before .before .before .before .before .before .before .before .pre .1 in
+    let k = c .before .before .before .before .before .before .before .before .before .before .before .before .before .before .before .before .before .before .before .before .before .before .before .before .before .before .before .before .before .before .pre .1 in
     let f = c .before .before .before .before .before .before .write-fields .ensures in
     put-image _ _ _ _ _ _ _ _ _ _ _ _ _ _
     (c .before .before .before .before .before .before .before .before .before .before .before .before .before .before .before .before .before .before .before .before .before .before .write-field8 .ensures)

@@ -1,5 +1,6 @@
 -- `image_writer::writer::write_entries` meets its contract. The loop's invariant: what is left to write gives what was to be written. The measure is the slots left. Assumes nothing.
 use Rattle.image_writer.specs.EntryLaws.{Writing, writing-none, writing-slot, writing-skip, writing-put, writing-end}
+use Rattle.lent.specs.Lent.{wordsIn}
 use lib.ListN.{length}
 use borrow.Author.Needs.{needs}
 use native.Mathlib.Omega.{arith}
@@ -8,13 +9,13 @@ use Rattle.image_writer.proofs.writer.write_entries.Statement.{statemen
 use Rattle.image_writer.proofs.writer.write_entries.Tie as tie
 
 abbrev Inv-loop : tie.InvT-loop
-Inv-loop words flags from m out₀ at s₀ left₀ p₀ out s left p = Writing words flags from m out₀ at out s left p
+Inv-loop words flags from m out₀ at lent bytes s₀ left₀ p₀ out s left p = Writing (wordsIn bytes words lent) flags from m out₀ at out s left p
 
 abbrev μ-loop : tie.MeasureT-loop
-μ-loop words flags from m out₀ at s₀ left₀ p₀ out s left p = length flags - s
+μ-loop words flags from m out₀ at lent bytes s₀ left₀ p₀ out s left p = length flags - s
 
 loop-holds : tie.Need-loop-holds Inv-loop μ-loop
-loop-holds c = let q = c .before .before .before .pre in writing-none _ _ _ _ _ _ (q .1) (q .2) (q .3)
+loop-holds c = let q = c .before .before .before .before .pre in writing-none _ _ _ _ _ _ (q .1) (q .2) (q .3)
 
 add-s : tie.Need-add-s Inv-loop μ-loop
 add-s c = omega (arith, writing-slot (c .before .loop .inv) (c .loop-test .taken))
@@ -22,11 +23,8 @@ add-s c = omega (arith, writing-slot (c .before .loop .inv) (c .loop-test .taken
 shared-slice-read-if1 : tie.Need-shared-slice-read-if1 Inv-loop μ-loop
 shared-slice-read-if1 c = omega (arith, writing-slot (c .before .before .loop .inv) (c .before .loop-test .taken))
 
-mul-identity : tie.Need-mul-identity Inv-loop μ-loop
-mul-identity c = search needs
-
-shared-slice-read-identity : tie.Need-shared-slice-read-identity Inv-loop μ-loop
-shared-slice-read-identity c = omega (arith, writing-slot (c .before .before .before .before .loop .inv) (c .before .before .before .loop-test .taken))
+word-requires : tie.Need-word-requires Inv-loop μ-loop
+word-requires c κs = let q = writing-slot (c .before .before .before .loop .inv) (c .before .before .loop-test .taken) in omega arith
 
 write-entry-requires : tie.Need-write-entry-requires Inv-loop μ-loop
 write-entry-requires c κs = omega arith
@@ -41,7 +39,7 @@ loop-less : tie.Need-loop-less Inv-loop μ-loop
 loop-less c = omega (arith, writing-slot (c .before .before .before .before .before .before .before .before .loop .inv) (c .before .before .before .before .before .before .before .loop-test .taken))
 
 loop-again : tie.Need-loop-again Inv-loop μ-loop
-loop-again c = writing-put (c .before .before .before .before .before .before .before .before .loop .inv) (c .before .before .before .before .before .before .before .loop-test .taken) (c .before .before .before .before .before .if1 .taken) _ (c .before .before .write-entry .ensures)
+loop-again c = writing-put (c .before .before .before .before .before .before .before .before .loop .inv) (c .before .before .before .before .before .before .before .loop-test .taken) (c .before .before .before .before .before .if1 .taken) _ (rw (c .before .before .before .before .word .ensures) at (c .before .before .write-entry .ensures))
 
 loop-less-2 : tie.Need-loop-less-2 Inv-loop μ-loop
 loop-less-2 c = omega (arith, writing-slot (c .before .before .before .loop .inv) (c .before .before .loop-test .taken))
@@ -64,8 +62,7 @@ write-entries-spec =
     loop-holds
     add-s
     shared-slice-read-if1
-    mul-identity
-    shared-slice-read-identity
+    word-requires
     write-entry-requires
     add-p
     sub-left

@@ -1,6 +1,7 @@
 -- `image_writer::writer::write_fields` meets its contract. The loop's invariant: the fields left to write give all fields. The measure is the entries left. Assumes nothing.
 use Rattle.image_writer.specs.EntryFieldLaws.{Fields, fields-none, fields-room, fields-more, fields-end}
 use lib.Seq.{length-sets}
+use Rattle.lent.specs.Lent.{wordsIn}
 use lib.ListN.{length}
 use borrow.Author.Needs.{needs}
 use native.Mathlib.Omega.{arith}
@@ -9,13 +10,13 @@ use Rattle.image_writer.proofs.writer.write_fields.Statement.{statement
 use Rattle.image_writer.proofs.writer.write_fields.Tie as tie
 
 abbrev Inv-loop : tie.InvT-loop
-Inv-loop words flags count out₀ at s₀ left₀ p₀ out s left p = Fields words flags count out₀ at out s left p
+Inv-loop words flags count out₀ at lent bytes s₀ left₀ p₀ out s left p = Fields (wordsIn bytes words lent) flags count out₀ at out s left p
 
 abbrev μ-loop : tie.MeasureT-loop
-μ-loop words flags count out₀ at s₀ left₀ p₀ out s left p = left
+μ-loop words flags count out₀ at lent bytes s₀ left₀ p₀ out s left p = left
 
 loop-holds : tie.Need-loop-holds Inv-loop μ-loop
-loop-holds c = let q = c .before .before .before .pre in fields-none _ _ _ _ _ (q .1) (q .2)
+loop-holds c = let q = c .before .before .before .before .pre in fields-none _ _ _ _ _ (q .1) (q .2)
 
 chunk-of-requires : tie.Need-chunk-of-requires Inv-loop μ-loop
 chunk-of-requires c κs = search needs
@@ -31,7 +32,7 @@ add-write-entries c = let r = fields-room (c .before .before .before .before .be
 
 write-entries-requires : tie.Need-write-entries-requires Inv-loop μ-loop
 write-entries-requires c κs = let r = fields-room (c .before .before .before .before .before .before .before .loop .inv) (c .before .before .before .before .before .before .loop-test .taken) in let z = simp length-sets at (ap length (c .before .before .before .write-head .ensures)) in
-    (c .before .before .before .before .before .before .before .before .before .before .before .pre .0, omega arith, omega arith, omega arith)
+    (c .before .before .before .before .before .before .before .before .before .before .before .before .pre .0, omega arith, omega arith, omega arith)
 
 add-p : tie.Need-add-p Inv-loop μ-loop
 add-p c = let r = fields-room (c .before .before .before .before .before .before .before .before .before .before .loop .inv) (c .before .before .before .before .before .before .before .before .before .loop-test .taken) in omega arith

@@ -1,3 +1,0 @@
-pub mod Write
-pub mod WriteLaws
-pub mod FillLaws
