@@ -143,7 +143,7 @@ all-free e c = let m : min 0 e ≡ 0 = omega arith in rw m (omega arith)
 
 pub cases : (letter : Letter) → Says letter
 unfolding positionOf boundedOf coordinatesOf phi pairs coordsOf start parse bitsOf lengthIn elasticPackedOf budgetOf probesOf ceilLog2 firstFrom loglog
-    elasticPlanOf layBy plannedReport lengthsOf split levelLength padded total readingOf drawOf reduceOf wordsAt wordOf elasticKeyOf
+    elasticPlanOf layBy plannedReport lengthsOf split levelLength padded total readingOf keyedDrawOf drawOf reduceOf wordsAt wordOf elasticKeyOf
     mix64Of xorBits insertReport refusalReport queryReport
 cases A = (refl, refl, refl)
 cases B = (refl, refl, refl)

@@ -26,7 +26,7 @@ use Rattle.probe.specs.declared.counter.Domain.the-variants as domain
 use Rattle.probe.specs.declared.range.Drawn.the-variants.{Index}
 use Rattle.probe.specs.Word.{wordOf}
 use Rattle.probe.specs.WordLaws.{word-below}
-use Rattle.probe.specs.Range.{drawOf, funnelDrawOf}
+use Rattle.probe.specs.Range.{drawOf, domainDrawOf, funnelDrawOf}
 use Rattle.probe.specs.RangeLaws.{draw-first}
 use Rattle.funnel.specs.declared.table.Search.the-variants as search
 use Rattle.funnel.specs.Path.{Path, run, join, levelStart, bucketFrom, levelsFrom, primaryFrom, fallbackOf, primaryStart, fallbackStart, pathOf}

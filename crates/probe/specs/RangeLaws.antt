@@ -235,6 +235,12 @@ pub funnel-core : (seed identity : ℕ) (domain : Domain) (probe u cap inner out
 unfolding funnelDrawOf
 funnel-core seed identity domain probe u cap inner outer i o = rw (i, o)
 
+-- an index that words gave is the index drawn
+pub domain-drawn : (inner outer : ℕ) (domain : Domain) (probe u cap i w : ℕ) → drawOf inner outer (funnelCounterOf domain probe 0) u cap ≡ Index i w
+    → domainDrawOf inner outer domain probe u cap ≡ drawn.Index i w
+unfolding domainDrawOf
+domain-drawn inner outer domain probe u cap i w e = ap (drawnFor (originOf domain) probe) e
+
 -- a draw by its words and the draw that they are for
 pub keyed-told : (key level probe u cap base : ℕ) (t : Trial) (d : Drawn) → base ≡ elasticCounterOf level probe 0 → t ≡ drawOf key key base u cap
     → d ≡ drawnFor (draw.Elastic level) probe t → d ≡ keyedDrawOf key level probe u cap

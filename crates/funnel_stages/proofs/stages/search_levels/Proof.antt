@@ -46,20 +46,20 @@ draw-level-requires-2 : tie.Need-draw-level-requires-2 Inv-loop μ-loop
 draw-level-requires-2 c κs = valid-drawable (c .before .before .before .before .before .before .before .before .before .pre .0)
 
 mul-from : tie.Need-mul-from Inv-loop μ-loop
-mul-from c = let d = drew-below _ _ _ _ _ (level-room (c .before .before .before .before .before .before .before .before .before .before .pre .0 .planned) _ (c .before .before .before .before .loop-test .taken) .some) (c .before .before .before .before .before .loop .inv .4 .ahead (c .before .before .before .before .loop-test .taken)) (c .before .before .drawn2 .given .1) in
+mul-from c = let d = drew-below _ _ _ _ _ _ (level-room (c .before .before .before .before .before .before .before .before .before .before .pre .0 .planned) _ (c .before .before .before .before .loop-test .taken) .some) (c .before .before .before .before .before .loop .inv .4 .ahead (c .before .before .before .before .loop-test .taken)) (c .before .before .drawn2 .given .1) in
     let b = bucket-room (c .before .before .before .before .before .before .before .before .before .before .pre .0 .planned) _ _ (c .before .before .before .before .loop-test .taken) d in
     let f = plan-facts (c .before .before .before .before .before .before .before .before .before .before .pre .0 .planned) in
     omega arith
 
 add-from : tie.Need-add-from Inv-loop μ-loop
-add-from c = let d = drew-below _ _ _ _ _ (level-room (c .before .before .before .before .before .before .before .before .before .before .pre .0 .planned) _ (c .before .before .before .before .loop-test .taken) .some) (c .before .before .before .before .before .loop .inv .4 .ahead (c .before .before .before .before .loop-test .taken)) (c .before .before .drawn2 .given .1) in
+add-from c = let d = drew-below _ _ _ _ _ _ (level-room (c .before .before .before .before .before .before .before .before .before .before .pre .0 .planned) _ (c .before .before .before .before .loop-test .taken) .some) (c .before .before .before .before .before .loop .inv .4 .ahead (c .before .before .before .before .loop-test .taken)) (c .before .before .drawn2 .given .1) in
     let b = bucket-room (c .before .before .before .before .before .before .before .before .before .before .pre .0 .planned) _ _ (c .before .before .before .before .loop-test .taken) d in
     let f = plan-facts (c .before .before .before .before .before .before .before .before .before .before .pre .0 .planned) in
     let s = c .before .before .before .before .before .loop .inv .1 in
     omega arith
 
 scan-requires : tie.Need-scan-requires Inv-loop μ-loop
-scan-requires c κs = let d = drew-below _ _ _ _ _ (level-room (c .before .before .before .before .before .before .before .before .before .before .pre .0 .planned) _ (c .before .before .before .before .loop-test .taken) .some) (c .before .before .before .before .before .loop .inv .4 .ahead (c .before .before .before .before .loop-test .taken)) (c .before .before .drawn2 .given .1) in
+scan-requires c κs = let d = drew-below _ _ _ _ _ _ (level-room (c .before .before .before .before .before .before .before .before .before .before .pre .0 .planned) _ (c .before .before .before .before .loop-test .taken) .some) (c .before .before .before .before .before .loop .inv .4 .ahead (c .before .before .before .before .loop-test .taken)) (c .before .before .drawn2 .given .1) in
     let b = bucket-room (c .before .before .before .before .before .before .before .before .before .before .pre .0 .planned) _ _ (c .before .before .before .before .loop-test .taken) d in
     let f = plan-facts (c .before .before .before .before .before .before .before .before .before .before .pre .0 .planned) in
     let v = c .before .before .before .before .before .before .before .before .before .before .pre .0 in
