@@ -12,7 +12,7 @@ CC ?= cc
 CFLAGS ?= -O2 -g
 
 # The exported calls are in the crate landovireph; the code that theirs comes from is in any crate but the programs'.
-SOURCES := $(filter-out crates/layout/% crates/replay/% crates/examine% crates/script% crates/text/% crates/bench_calls/%, \
+SOURCES := $(filter-out crates/layout/% crates/rent/% crates/replay/% crates/examine% crates/script% crates/text/% crates/bench_calls/%, \
     $(wildcard crates/*/src/*.rt))
 LIBRARY = target/staticlib/liblandovireph.a
 

@@ -1,8 +1,16 @@
-/* The commands of replay on funnel tables: FL, FRUN and FBULK. */
+/* The commands of replay on funnel tables: FL, SN, FRUN and FBULK. */
 #include "runs.h"
 
 #include <inttypes.h>
 #include <stdio.h>
+#include <string.h>
+
+static void print_counts(const struct table *table)
+{
+    uint64_t i;
+    for (i = 0; i < landovireph_get(table->state, LANDOVIREPH_STATE_LEVELS); i++)
+        printf(" %" PRIu64, landovireph_get(table->state, LANDOVIREPH_STATE_COUNTS + 8 * i));
+}
 
 /* A layout is what open writes into the state block; the word cap plays no part in it. */
 bool answer_funnel_layout(struct given given)
@@ -19,9 +27,55 @@ bool answer_funnel_layout(struct given given)
         return true;
     for (i = 0; i < sizeof shown / sizeof shown[0]; i++)
         printf("%s%" PRIu64, i == 0 ? "" : " ", landovireph_get(table.state, shown[i]));
-    for (i = 0; i < landovireph_get(table.state, LANDOVIREPH_STATE_LEVELS); i++)
-        printf(" %" PRIu64, landovireph_get(table.state, LANDOVIREPH_STATE_COUNTS + 8 * i));
+    print_counts(&table);
     table_close(&table);
+    return true;
+}
+
+/* Whether the plan in the answer block is that of the table which is opened with its n. */
+static bool same_plan(const uint8_t *answer, const struct table *table)
+{
+    return memcmp(answer + LANDOVIREPH_SMALLEST_MAXIMUM, table->state + LANDOVIREPH_STATE_MAXIMUM,
+                  LANDOVIREPH_SMALLEST_FIRST + 8 - LANDOVIREPH_SMALLEST_MAXIMUM) == 0;
+}
+
+/* The counts of buckets come with opening the table; where that is too large L stands in their place. */
+static void print_smallest(const uint8_t *answer, uint32_t e)
+{
+    struct numbers numbers = { .kind = LANDOVIREPH_KIND_FUNNEL, .word_cap = 1, .e = e };
+    struct table table;
+    size_t at;
+    numbers.n = landovireph_get(answer, LANDOVIREPH_SMALLEST_N);
+    printf("%" PRIu64, numbers.n);
+    for (at = LANDOVIREPH_SMALLEST_MAXIMUM; at <= LANDOVIREPH_SMALLEST_SPECIAL; at += 8)
+        printf(" %" PRIu64, landovireph_get(answer, at));
+    if (numbers.n > bounds.slots) {
+        printf(" L");
+        return;
+    }
+    if (table_open(&table, &numbers, bounds.slots) != 0) {
+        printf(" no table has this n");
+        return;
+    }
+    print_counts(&table);
+    if (!same_plan(answer, &table))
+        printf(" DIFFERS");
+    table_close(&table);
+}
+
+bool answer_smallest(struct given given)
+{
+    uint8_t answer[LANDOVIREPH_ANSWER_BYTES];
+    uint64_t count, first, last, refused;
+    uint32_t e;
+    if (!take_word(&given, &count) || !take_half_word(&given, &e) || !take_word(&given, &first) || !take_word(&given, &last) ||
+        given.count != 0)
+        return false;
+    refused = landovireph_funnel_smallest(count, e, first, last, answer, sizeof answer);
+    if (refused != 0)
+        printf("R %" PRIu64, refused);
+    else
+        print_smallest(answer, e);
     return true;
 }
 

@@ -22,16 +22,17 @@
 #include <sys/mman.h>
 #include <unistd.h>
 
-#define NUMBERS 27         /* results from 0 to 26 */
+#define NUMBERS 28         /* results from 0 to 27 */
 #define ROOM (1u << 16)    /* bytes that an arena can lend; whole pages */
 #define POOL 48            /* tables of each kind */
 #define MOST_SLOTS 700     /* of one of them */
 #define MOST_IDENTITIES 40 /* of one place_all */
 
-enum call { OPEN, SEARCH, INSERT, PLACE_ALL, CHECK, LOAD, WRITE, ELASTIC_OPEN, ELASTIC_INSERT, ELASTIC_QUERY, CALLS };
+enum call { OPEN, SEARCH, INSERT, PLACE_ALL, CHECK, LOAD, WRITE, SMALLEST, ELASTIC_OPEN, ELASTIC_INSERT, ELASTIC_QUERY, CALLS };
 
-static const char *const names[CALLS] = { "funnel_open", "funnel_search", "funnel_insert", "funnel_place_all", "funnel_check",
-                                          "funnel_load", "funnel_write",  "elastic_open",  "elastic_insert",   "elastic_query" };
+static const char *const names[CALLS] = { "funnel_open",     "funnel_search", "funnel_insert",  "funnel_place_all",
+                                          "funnel_check",    "funnel_load",   "funnel_write",   "funnel_smallest",
+                                          "elastic_open",    "elastic_insert", "elastic_query" };
 
 static uint64_t tally[CALLS][NUMBERS];
 static uint64_t turn, seed_given;
@@ -733,6 +734,36 @@ static void try_open(void)
     keeps_opened(landovireph_funnel_open(n, strange_e(), table->seed, cap, TABLE, LENT(ANSWER)), n);
 }
 
+/* Whether a table of n slots has a layout and takes so many members: open with empty buffers is STATE, which comes last. */
+static bool can_take(uint64_t n, uint32_t e, uint64_t members)
+{
+    uint8_t state[LANDOVIREPH_STATE_BYTES], answer[LANDOVIREPH_ANSWER_BYTES], none[2];
+    return landovireph_funnel_open(n, e, 0, 1, state, sizeof state, none, 0, none + 1, 0, answer, sizeof answer) == LANDOVIREPH_STATE &&
+           n - (e < 64 ? n >> e : 0) >= members;
+}
+
+#define SMALLEST_SAYS ((1u << 12) - 1) /* n and the eleven numbers of its plan */
+
+static void try_smallest(void)
+{
+    static const struct may may[] = { { 0, SMALLEST_SAYS }, { LANDOVIREPH_NONE, 0 }, { -1, 0 } };
+    uint64_t members = one_in(3) ? 0 : draw() >> below(64), first = one_in(6) ? strange_n() : draw() >> (32 + below(32));
+    uint64_t last = one_in(6) ? strange_n() : first + (draw() >> (32 + below(32))), n, result;
+    uint32_t e = one_in(2) ? 3 + (uint32_t)below(26) : strange_e();
+    result = landovireph_funnel_smallest(members, e, first, last, LENT(ANSWER));
+    count(result);
+    keeps_answers(result, may, false);
+    keeps_table();
+    if (result == LANDOVIREPH_NONE)
+        must(last < first || !can_take(last, e, members), "the last n of the range takes the members");
+    if (result != 0)
+        return;
+    n = landovireph_get(arenas[ANSWER].at, LANDOVIREPH_SMALLEST_N);
+    must(first <= n && n <= last && can_take(n, e, members), "an n that is outside the range, has no layout or does not take the members");
+    must(n == first || !can_take(n - 1, e, members), "a smaller n takes the members");
+    must(landovireph_get(arenas[ANSWER].at, LANDOVIREPH_SMALLEST_MAXIMUM) == n - (n >> e), "another maximum");
+}
+
 static void try_elastic_open(void)
 {
     uint64_t n = strange_n(), c = one_in(6) ? below(9000) : table->c, cap = one_in(6) ? below(20) : table->cap;
@@ -782,8 +813,8 @@ static void try_elastic_query(void)
          "the slot does not hold the identity");
 }
 
-static void (*const tries[CALLS])(void) = { try_open, try_search, try_insert,       try_place_all,      try_check,
-                                            try_load, try_write,  try_elastic_open, try_elastic_insert, try_elastic_query };
+static void (*const tries[CALLS])(void) = { try_open,  try_search,   try_insert,       try_place_all,      try_check,        try_load,
+                                            try_write, try_smallest, try_elastic_open, try_elastic_insert, try_elastic_query };
 
 /* A table of the call's own kind, but for a few times. */
 static void one_call(void)

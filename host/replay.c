@@ -5,9 +5,11 @@
  *
  * One command a line, one answer a line, as the program `replay` of this repository and the oracle answer them; oracle/README.md
  * has the forms. --bounded answers L where those do: a line of more than 524,288 bytes, a table of more than 65,536 slots, a room
- * above 1,048,576. Without it L means that this machine's memory does not hold the table.
+ * above 1,048,576. Without it L means that this machine's memory does not hold the table. The counts of buckets in the answer to SN are
+ * those of a table that is opened: where it is too large, L stands in their place.
  *
- * Commands on parts that no exported call gives (layouts of elastic tables, probes, phi, budget) are answered `no call`.
+ * Commands on parts that no exported call gives (layouts of elastic tables, the lower bound on layouts, probes, phi, budget) are answered
+ * `no call`.
  * What the calls must leave as it was is tested on the way: CHANGED stands behind an answer where they did not. A bulk run is made a
  * second time by placing many identities at a time: DIFFERS stands behind its answer where that leaves another table.
  * Exit status: 0; 2 for a wrong argument, or where reading or writing fails; 3 where there is no memory.
@@ -92,7 +94,7 @@ struct command {
 static const struct command commands[] = {
     { "FL", answer_funnel_layout }, { "FRUN", answer_funnel_run },   { "FBULK", answer_funnel_bulk },
     { "LOAD", answer_load },        { "WRITE", answer_write },       { "CHECK", answer_check },
-    { "ERUN", answer_elastic_run }, { "EBULK", answer_elastic_bulk },
+    { "ERUN", answer_elastic_run }, { "EBULK", answer_elastic_bulk }, { "SN", answer_smallest },
 };
 
 /* Commands of the protocol that no exported call answers, with the number of their fields. */
@@ -104,6 +106,7 @@ struct uncalled {
 static const struct uncalled uncalled[] = {
     { "EL", 2 }, { "MIX", 1 }, { "EP", 3 },  { "FP", 4 },  { "EW", 5 },    { "FW", 6 },
     { "ER", 6 }, { "FR", 7 },  { "PHI", 2 }, { "PHB", 2 }, { "PHINV", 1 }, { "BUD", 4 },
+    { "MS", 2 },
 };
 
 static bool answer_uncalled(struct field word, struct given given)

@@ -40,6 +40,7 @@ bool same_table(const struct table *a, const struct table *b);
 
 /* Each prints the answer to a command, or answers false where its fields are of another form. */
 bool answer_funnel_layout(struct given given);
+bool answer_smallest(struct given given);
 bool answer_funnel_run(struct given given);
 bool answer_funnel_bulk(struct given given);
 bool answer_elastic_run(struct given given);

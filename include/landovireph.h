@@ -67,7 +67,7 @@ enum landovireph_refusal {
     LANDOVIREPH_ZEROEXP = 2,    /* e is 0 */
     LANDOVIREPH_SIZE = 3,       /* n is above 2^32 */
     LANDOVIREPH_EXPONENT = 4,   /* funnel: e is below 3 */
-    LANDOVIREPH_LAYOUT = 5,     /* no funnel table has this n and e; one with a slightly larger n often exists */
+    LANDOVIREPH_LAYOUT = 5,     /* no funnel table has this n and e; landovireph_funnel_smallest gives the next n that has one */
     LANDOVIREPH_LIMITS = 6,     /* a cap or c is outside its range, or a label is longer than 64 bytes */
     LANDOVIREPH_STATE = 7,      /* a buffer is not as long as n asks; the state block holds no table, or not that of n and e;
                                    its count is above n; elastic: the counts of the levels do not fit */
@@ -80,7 +80,7 @@ enum landovireph_refusal {
     LANDOVIREPH_BUDGET = 14,
     LANDOVIREPH_DUPLICATE = 15, /* the identity is in the table: its place is in the answer */
     LANDOVIREPH_EXHAUSTED = 16, /* the table holds its maximum, n - floor(n / 2^e), or more */
-    LANDOVIREPH_SCHEDULE = 17,  /* elastic: both active levels are low, as only a made-up state has them */
+    LANDOVIREPH_SCHEDULE = 17,  /* elastic: both active levels are low, as only a made-up state has them (below) */
     LANDOVIREPH_SEARCH = 18,    /* elastic: the search cap is used up */
     LANDOVIREPH_POSITION = 19,  /* elastic: the position is above the position cap */
     LANDOVIREPH_FULL = 20,      /* funnel: no slot on the identity's path is vacant, and none holds it */
@@ -89,7 +89,8 @@ enum landovireph_refusal {
     LANDOVIREPH_DISORDER = 23,  /* no order of insertions makes this table */
     LANDOVIREPH_IMAGE = 24,     /* the image is malformed: the byte place is in the answer */
     LANDOVIREPH_FOREIGN = 25,   /* the image's n, e or seed is not the table's */
-    LANDOVIREPH_ROOM = 26       /* the buffer is shorter than the image */
+    LANDOVIREPH_ROOM = 26,      /* the buffer is shorter than the image */
+    LANDOVIREPH_NONE = 27       /* no n of the range has a layout and takes so many members */
 };
 
 /* The name of a result, for messages. */
@@ -98,7 +99,7 @@ static inline const char *landovireph_refusal_name(uint64_t result)
     static const char *const names[] = {
         "OK", "N", "ZEROEXP", "SIZE", "EXPONENT", "LAYOUT", "LIMITS", "STATE", "UPPER", "COUNTER", "RANGE", "COORD", "OVERFLOW",
         "GAP", "BUDGET", "DUPLICATE", "EXHAUSTED", "SCHEDULE", "SEARCH", "POSITION", "FULL", "ABSENT", "DIRTY", "DISORDER",
-        "IMAGE", "FOREIGN", "ROOM"
+        "IMAGE", "FOREIGN", "ROOM", "NONE"
     };
     return result < sizeof names / sizeof names[0] ? names[result] : "no refusal has this number";
 }
@@ -210,6 +211,22 @@ enum landovireph_elastic_answer_offset {
     LANDOVIREPH_ELASTIC_BUDGET = 112
 };
 
+/* What landovireph_funnel_smallest writes, each also in the state block of the table that is opened with that n. */
+enum landovireph_smallest_answer_offset {
+    LANDOVIREPH_SMALLEST_N = 0,                /* slots: words take 8n bytes, flags n */
+    LANDOVIREPH_SMALLEST_MAXIMUM = 8,          /* the most members, at least the count that was asked for */
+    LANDOVIREPH_SMALLEST_LEVELS = 16,
+    LANDOVIREPH_SMALLEST_BUCKET = 24,
+    LANDOVIREPH_SMALLEST_PRIMARY_PROBES = 32,
+    LANDOVIREPH_SMALLEST_FALLBACK_BUCKET = 40,
+    LANDOVIREPH_SMALLEST_SPECIAL = 48,
+    LANDOVIREPH_SMALLEST_PRIMARY = 56,
+    LANDOVIREPH_SMALLEST_FALLBACK = 64,
+    LANDOVIREPH_SMALLEST_FALLBACK_BUCKETS = 72,
+    LANDOVIREPH_SMALLEST_BUCKETS = 80,
+    LANDOVIREPH_SMALLEST_FIRST = 88
+};
+
 enum landovireph_place_kind { LANDOVIREPH_ORDINARY = 1, LANDOVIREPH_PRIMARY = 2, LANDOVIREPH_FALLBACK = 3 };
 
 static inline uint64_t landovireph_answer_probes(const uint8_t *answer)
@@ -232,6 +249,11 @@ static inline int landovireph_answer_found(const uint8_t *answer)
     return landovireph_get(answer, LANDOVIREPH_ANSWER_FOUND) != 0;
 }
 
+static inline uint64_t landovireph_answer_smallest_n(const uint8_t *answer)
+{
+    return landovireph_get(answer, LANDOVIREPH_SMALLEST_N);
+}
+
 static inline uint64_t landovireph_answer_placed(const uint8_t *answer)
 {
     return landovireph_get(answer, LANDOVIREPH_ANSWER_PLACED);
@@ -240,7 +262,8 @@ static inline uint64_t landovireph_answer_placed(const uint8_t *answer)
 /*
  * Funnel tables
  *
- * n from 2 to 2^32, e from 3, word cap 1 to 256 (8 is usual). Not every n has a layout: where open answers LAYOUT, try the next n.
+ * n from 2 to 2^32, e from 3, word cap 1 to 256 (8 is usual). Not every n has a layout, and there are stretches of hundreds of millions
+ * without one: where open answers LAYOUT, ask landovireph_funnel_smallest for the next n that has one.
  *
  *     slot 0                                              n - special           n - fallback            n
  *     | level 0: its buckets | level 1 | .. | last level  | primary slots       | fallback buckets      |
@@ -258,6 +281,16 @@ uint64_t landovireph_funnel_open(uint64_t n, uint32_t e, uint64_t seed, uint64_t
                                  uint8_t *words, size_t words_bytes,
                                  uint8_t *flags, size_t flags_bytes,
                                  uint8_t *answer, size_t answer_bytes);
+
+/*
+ * How small a table can be: the smallest n from first to last that has a layout and takes count members (its maximum is at least the
+ * count); a count of 0 asks for the smallest n with a layout. Answers n and the numbers of its plan; the buckets of each level come with
+ * open. It answers at once for every range, and takes no table.
+ * Refusals: N (first is below 2), ZEROEXP, SIZE (last is above 2^32), EXPONENT, STATE (the answer block has another length); NONE where
+ * the range holds no such n, as where first is above last.
+ */
+uint64_t landovireph_funnel_smallest(uint64_t count, uint32_t e, uint64_t first, uint64_t last,
+                                     uint8_t *answer, size_t answer_bytes);
 
 /*
  * Where an identity is (found 1), or the vacancy where it would be put (found 0). Answers probes, the place (kind, level, bucket,
@@ -363,7 +396,8 @@ uint64_t landovireph_elastic_open(uint64_t n, uint32_t e, uint64_t seed, uint64_
  * Enters an identity: writes one word, its flag, the count and the count of its level. Answers the case, batch, free slots and
  * budget, the place (level, within, slot), the paper probe and, as position, phi.
  * Refusals: 1 to 3, 6, 7; DUPLICATE with slot, the smallest that holds it; EXHAUSTED; SCHEDULE; RANGE with words or SEARCH, as
- * the steps meet them; POSITION.
+ * the steps meet them; POSITION. A table that was opened and changed by insertions alone never answers SCHEDULE: that is proved,
+ * in crates/elastic_laws/specs/Never.antt.
  */
 uint64_t landovireph_elastic_insert(uint8_t *state, size_t state_bytes,
                                     uint8_t *words, size_t words_bytes,

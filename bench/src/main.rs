@@ -24,11 +24,13 @@ mod measure;
 #[path = "../../oracle/src/panics.rs"]
 mod panics;
 mod probes;
+mod smallest;
 
 fn main() {
     let wanted: Vec<String> = std::env::args().skip(1).collect();
     let mut table = measure::Table::new(wanted);
     layouts::rows(&mut table);
+    smallest::rows(&mut table);
     probes::rows(&mut table);
     funnels::rows(&mut table);
     elastics::rows(&mut table);

@@ -7,7 +7,7 @@ use crate::exact::probe::{
 };
 use crate::line::{bytes, entry, fields, half_word, two_words, word};
 use crate::rules::{self, Bounds, Refused, refusal};
-use crate::{check, elastic, funnel, image};
+use crate::{check, elastic, funnel, image, smallest};
 
 /// The answer to a line: `?` where it is no command, `L` where it is longer than `replay` can hold.
 pub fn answer(line: &[u8], bounds: Bounds) -> String {
@@ -27,6 +27,13 @@ fn command(line: &[u8], bounds: Bounds) -> Option<Result<String, Refused>> {
     match (name, rest) {
         (b"EL", &[n, e]) => Some(elastic_layout(word(n)?, half_word(e)?)),
         (b"FL", &[n, e]) => Some(funnel_layout(word(n)?, half_word(e)?)),
+        (b"SN", &[count, e, first, last]) => Some(smallest::smallest(
+            word(count)?,
+            half_word(e)?,
+            word(first)?,
+            word(last)?,
+        )),
+        (b"MS", &[e, from]) => Some(smallest::minimum(half_word(e)?, word(from)?)),
         (b"MIX", &[x]) => Some(Ok(CounterPrf::bare_mix64(word(x)?).to_string())),
         (b"EP", &[level, probe, retry]) => {
             Some(elastic_counter(word(level)?, word(probe)?, word(retry)?).map(|c| c.to_string()))
@@ -175,7 +182,7 @@ fn elastic_layout(n: u64, e: u32) -> Result<String, Refused> {
     ))
 }
 
-fn funnel_layout(n: u64, e: u32) -> Result<String, Refused> {
+pub fn funnel_layout(n: u64, e: u32) -> Result<String, Refused> {
     let config = rules::config(n, e)?;
     let plan = rules::funnel_plan(config)?;
     let counts = plan

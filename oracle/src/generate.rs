@@ -9,6 +9,7 @@ mod image;
 mod layouts;
 mod numbers;
 mod probes;
+mod smallest;
 mod spoilt;
 
 use std::collections::{BTreeMap, BTreeSet};
@@ -19,7 +20,7 @@ use crate::report::kinds;
 use crate::rules::Bounds;
 use numbers::Numbers;
 
-pub const GROUPS: [&str; 7] = ["layouts", "probes", "elastic", "funnel", "image", "check", "hostile"];
+pub const GROUPS: [&str; 8] = ["layouts", "smallest", "probes", "elastic", "funnel", "image", "check", "hostile"];
 
 /// Where the lines of a group go: all of them out, or a few of each section.
 enum Sink {
@@ -101,6 +102,7 @@ impl Group {
     fn run(&mut self, name: &str) {
         match name {
             "layouts" => layouts::lines(self),
+            "smallest" => smallest::lines(self),
             "probes" => probes::lines(self),
             "elastic" => elastic::lines(self),
             "funnel" => funnel::lines(self),

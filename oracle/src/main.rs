@@ -22,6 +22,7 @@ mod line;
 mod panics;
 mod report;
 mod rules;
+mod smallest;
 
 use std::io::{BufRead, Write};
 

@@ -13,18 +13,21 @@ use Rattle.elastic.specs.declared.state.State.{State}
 use Rattle.elastic.specs.declared.state.Opened.the-variants as opening
 use Rattle.elastic_steps.specs.declared.answer.Case.{Case}
 use Rattle.elastic_steps.specs.declared.answer.InsertRefusal.{InsertRefusal}
+use Rattle.elastic_steps.specs.declared.answer.InsertRefusal.the-variants as refusal
 use Rattle.elastic_steps.specs.declared.answer.InsertAnswer.{InsertAnswer}
 use Rattle.elastic_steps.specs.declared.answer.InsertAnswer.the-variants as answer
-use Rattle.elastic.specs.State.{opened, openOf}
+use Rattle.elastic_steps.specs.declared.answer.Chosen.the-variants as chosen
+use Rattle.elastic.specs.State.{opened, openOf, Valid}
 use Rattle.elastic.specs.Reading.{vacantAt}
-use Rattle.elastic_steps.specs.Insert.{Done, done, counted, addedTo, insertionOf, insertOf}
+use Rattle.elastic_steps.specs.Insert.{chooseOf, Done, done, counted, addedTo, insertionOf, insertOf}
 
--- nothing, or one slot, one level count and the count
-pub data Changes (st : State) (cs ws fs : List ℕ) (id : ℕ) : Done → Type 0 where
-  none : (r : InsertRefusal) → Changes st cs ws fs id (done (answer.Refused r) st cs ws fs)
-  one : (case : Case) (level slot : ℕ) (probe : LogicalProbe) → level < levelsOf (st .n) → offsetAt (st .n) level ≤ slot → slot < offsetAt (st .n) level + lengthAt (st .n) level → getD fs slot 0 ≡ 0
+-- what an insertion does: it is refused and changes nothing, and SCHEDULE is a refusal of the choice alone; or it stores the identity in the slot that was chosen, which
+-- changes that slot, one level count and the count
+pub data Outcome (st : State) (cs ws fs : List ℕ) (id : ℕ) : Done → Type 0 where
+  kept : (r : InsertRefusal) → (r ≡ refusal.Schedule → chooseOf st cs ws fs id ≡ chosen.Refused refusal.Schedule) → Outcome st cs ws fs id (done (answer.Refused r) st cs ws fs)
+  stored : (case : Case) (level slot : ℕ) (probe : LogicalProbe) → Valid st cs (length ws) (length fs) → chooseOf st cs ws fs id ≡ chosen.Slot case level slot probe
       → phi (level + 1) (probe .0 + 1) ≤ st .limits .«hit_query_position_cap»
-      → Changes st cs ws fs id (done (answer.Inserted (insertionOf (st .n) case level slot probe)) (counted st) (addedTo cs level) (set ws slot id) (set fs slot 1))
+      → Outcome st cs ws fs id (done (answer.Inserted (insertionOf (st .n) case level slot probe)) (counted st) (addedTo cs level) (set ws slot id) (set fs slot 1))
 
 -- the occupied ones of so many flags from one on
 unfoldable pub occupied : List ℕ → (from size : ℕ) → ℕ

@@ -30,32 +30,42 @@ use Rattle.elastic_steps.specs.declared.answer.InsertAnswer.{InsertAnswer}
 use Rattle.elastic_steps.specs.declared.answer.InsertAnswer.the-variants as answer
 use Rattle.elastic_steps.specs.declared.answer.Chosen.{Chosen}
 use Rattle.elastic_steps.specs.declared.answer.Chosen.the-variants as chosen
-use Rattle.elastic.specs.State.{gateOf, openGate, OpenDone, opened, openBy, openOf, freshOf, Valid}
+use Rattle.elastic.specs.State.{gateOf, freshOf}
 use Rattle.elastic.specs.StateLaws.{gate-valid, open-facts}
 use Rattle.elastic.specs.Reading.{vacantAt}
 use Rattle.elastic_steps.specs.Insert.{chooseOf, Done, done, counted, addedTo, insertionOf, placeBy, insertBy, insertOf}
-use Rattle.elastic_steps.specs.InsertLaws.{Taken, choose-taken}
-use Rattle.elastic_insert.specs.Table.{Changes, none, one, occupied, Counted, Reached, fresh, more}
+use Rattle.elastic_steps.specs.InsertLaws.{choose-taken}
+use Rattle.elastic_insert.specs.Table.{Outcome, kept, stored, occupied, Counted, Reached, fresh, more}
 
--- ---- what an insertion changes
+-- ---- what an insertion does
 
-pub insert-changes : (st : State) (cs ws fs : List ℕ) (id : ℕ) → Changes st cs ws fs id (insertOf st cs ws fs id)
+-- two answers that differ are not equal
+pub never : {A : Type 0} → _≡_ {A = ℕ} 0 1 → A
+never z = absurd (omega arith)
+
+-- An insertion is refused and changes nothing, or it stores the identity in the slot that was chosen.
+pub insert-outcome : (st : State) (cs ws fs : List ℕ) (id : ℕ) → Outcome st cs ws fs id (insertOf st cs ws fs id)
 unfolding insertOf placeBy
-insert-changes st cs ws fs id = go (gateOf st cs (length ws) (length fs)) refl
+insert-outcome st cs ws fs id = go (gateOf st cs (length ws) (length fs)) refl
   where
-    by : (case : Case) (level slot : ℕ) (probe : LogicalProbe) → Taken st fs level slot probe → (x : Bool) → ltb (st .limits .«hit_query_position_cap») (phi (level + 1) (probe .0 + 1)) ≡ x
-        → Changes st cs ws fs id (pick x (done (answer.Refused refusal.Position) st cs ws fs)
-        (done (answer.Inserted (insertionOf (st .n) case level slot probe)) (counted st) (addedTo cs level) (set ws slot id) (set fs slot 1)))
-    by case level slot probe t true e = none refusal.Position
-    by case level slot probe t false e = one case level slot probe (t .has) (t .from) (t .to) (t .vacant) (ltb-false _ _ e)
+    place : gateOf st cs (length ws) (length fs) ≡ gated.Passed → (x : Chosen) → chooseOf st cs ws fs id ≡ x → Outcome st cs ws fs id (placeBy st cs ws fs id x)
+    place p (chosen.Refused r) e = kept r (λ q. e ∙ ap chosen.Refused q)
+    place p (chosen.Slot case level slot probe) e = by (ltb (st .limits .«hit_query_position_cap») (phi (level + 1) (probe .0 + 1))) refl
+      where
+        by : (y : Bool) → ltb (st .limits .«hit_query_position_cap») (phi (level + 1) (probe .0 + 1)) ≡ y
+            → Outcome st cs ws fs id (pick y (done (answer.Refused refusal.Position) st cs ws fs)
+            (done (answer.Inserted (insertionOf (st .n) case level slot probe)) (counted st) (addedTo cs level) (set ws slot id) (set fs slot 1)))
+        by true d = kept refusal.Position (λ q. never (cc))
+        by false d = stored case level slot probe (gate-valid st cs (length ws) (length fs) p) e (ltb-false _ _ d)
 
-    place : Valid st cs (length ws) (length fs) → (x : Chosen) → chooseOf st cs ws fs id ≡ x → Changes st cs ws fs id (placeBy st cs ws fs id x)
-    place v (chosen.Refused r) e = none r
-    place v (chosen.Slot case level slot probe) e = by case level slot probe (choose-taken st cs ws fs v id case level slot probe e) _ refl
+    go : (g : Gated) → gateOf st cs (length ws) (length fs) ≡ g → Outcome st cs ws fs id (insertBy g st cs ws fs id)
+    go (gated.Refused g) e = kept (refusal.Gate g) (λ q. never (cc))
+    go gated.Passed e = place e (chooseOf st cs ws fs id) refl
 
-    go : (g : Gated) → gateOf st cs (length ws) (length fs) ≡ g → Changes st cs ws fs id (insertBy g st cs ws fs id)
-    go (gated.Refused g) e = none (refusal.Gate g)
-    go gated.Passed e = place (gate-valid st cs (length ws) (length fs) e) (chooseOf st cs ws fs id) refl
+-- what holds of what an insertion leaves, of state and lists by name
+pub leaves : (P : State → List ℕ → List ℕ → List ℕ → Type 0) {d : Done} {a : InsertAnswer} {st : State} {cs ws fs : List ℕ} → d ≡ done a st cs ws fs
+    → P (d .st) (d .counts) (d .words) (d .flags) → P st cs ws fs
+leaves P h p = subst (λ (d : Done). P (d .st) (d .counts) (d .words) (d .flags)) h p
 
 -- ---- flags that are counted
 
@@ -169,14 +179,15 @@ pub record Kept (n e : ℕ) (st : State) (cs fs : List ℕ) : Type 0 where
   pub n-is : st .n ≡ n
   pub counts : Counted st cs fs
 
-kept-changes : (n e : ℕ) (st : State) (cs ws fs : List ℕ) (id : ℕ) → Kept n e st cs fs → (d : Done) → Changes st cs ws fs id d → Kept n e (d .st) (d .counts) (d .flags)
-kept-changes n e st cs ws fs id k d (none r) = k
-kept-changes n e st cs ws fs id k d (one case level slot probe has from to vacant near) =
+kept-outcome : (n e : ℕ) (st : State) (cs ws fs : List ℕ) (id : ℕ) → Kept n e st cs fs → (d : Done) → Outcome st cs ws fs id d → Kept n e (d .st) (d .counts) (d .flags)
+kept-outcome n e st cs ws fs id k d (kept r h) = k
+kept-outcome n e st cs ws fs id k d (stored case level slot probe v h near) =
     let c : Configured (st .n) e = rw (k .n-is) (k .config) in
+    let t = choose-taken st cs ws fs v id case level slot probe h in
     record {
       config = k .config;
       n-is = k .n-is;
-      counts = counted-one st cs ws fs id (k .counts) (levels-facts (st .n) e c .few) (level-within (st .n) e c) level slot has from to vacant;
+      counts = counted-one st cs ws fs id (k .counts) (levels-facts (st .n) e c .few) (level-within (st .n) e c) level slot (t .has) (t .from) (t .to) (t .vacant);
     }
 
 -- from fresh the level counts sum to the count, and each equals the occupied flags of its level
@@ -186,8 +197,4 @@ reached-kept {n} {e} {seed} {limits} (fresh cs₀ ws₀ fs₀ st cs ws fs l h) =
     let c : replicate 32 0 ≡ cs = rw l at (f .2) in
     rw (← (f .1), ← c, ← (f .4)) (record { config = f .0; n-is = refl; counts = counted-fresh n e seed limits })
 reached-kept {n} {e} (more st cs ws fs id a st' cs' ws' fs' r h) =
-    let k = kept-changes n e st cs ws fs id (reached-kept r) (insertOf st cs ws fs id) (insert-changes st cs ws fs id) in
-    let u : insertOf st cs ws fs id .st ≡ st' = ap (λ (d : Done). d .st) h in
-    let v : insertOf st cs ws fs id .counts ≡ cs' = ap (λ (d : Done). d .counts) h in
-    let w : insertOf st cs ws fs id .flags ≡ fs' = ap (λ (d : Done). d .flags) h in
-    rw (← u, ← v, ← w) k
+    leaves (λ st cs ws fs. Kept n e st cs fs) h (kept-outcome n e st cs ws fs id (reached-kept r) (insertOf st cs ws fs id) (insert-outcome st cs ws fs id))

@@ -2,23 +2,15 @@
 use mathlib.Core.List.{List}
 use mathlib.Core.Path.{_≡_}
 use Prim.Native.Nat.{ℕ, _+_, _/_, _^_, _≤_, _<_}
-use lib.ListN.{length, set}
 use Rattle.words.specs.declared.place.LogicalProbe.{LogicalProbe}
 use Rattle.geometry.specs.Elastic.{lengthAt}
-use Rattle.elastic_probe.specs.Phi.{phi}
 use Rattle.probe.specs.Word.{elasticKeyOf}
 use Rattle.elastic.specs.declared.state.State.{State}
 use Rattle.elastic.specs.declared.route.Sought.the-variants as sought
 use Rattle.elastic.specs.declared.route.Located.the-variants as located
-use Rattle.elastic.specs.State.{Valid}
 use Rattle.elastic.specs.Reading.{seekOf, firstOf}
-use Rattle.elastic_steps.specs.declared.answer.Case.{Case}
-use Rattle.elastic_steps.specs.declared.answer.InsertRefusal.{InsertRefusal}
-use Rattle.elastic_steps.specs.declared.answer.InsertRefusal.the-variants as refusal
-use Rattle.elastic_steps.specs.declared.answer.InsertAnswer.the-variants as answer
 use Rattle.elastic_steps.specs.declared.answer.Chosen.{Chosen}
-use Rattle.elastic_steps.specs.declared.answer.Chosen.the-variants as chosen
-use Rattle.elastic_steps.specs.Insert.{freeAt, stepsOf, chooseOf, Done, done, counted, addedTo, insertionOf}
+use Rattle.elastic_steps.specs.Insert.{freeAt, stepsOf}
 use Rattle.elastic_laws.specs.Schedule.{batchNow, Takes}
 
 -- a slot that a search of its level found vacant
@@ -43,10 +35,3 @@ pub record Stepped (st : State) (cs ws fs : List ℕ) (id : ℕ) (x : Chosen) : 
   pub absent : firstOf ws fs id ≡ located.Nowhere
   pub room : st .count < st .plan .maximum
   pub steps : stepsOf st (elasticKeyOf (st .seed) id) cs fs (batchNow st) ≡ x
-
--- what an insertion does: it is refused and changes nothing, or it stores the identity in the slot that was chosen
-pub data Outcome (st : State) (cs ws fs : List ℕ) (id : ℕ) : Done → Type 0 where
-  kept : (r : InsertRefusal) → (r ≡ refusal.Schedule → chooseOf st cs ws fs id ≡ chosen.Refused refusal.Schedule) → Outcome st cs ws fs id (done (answer.Refused r) st cs ws fs)
-  stored : (case : Case) (level slot : ℕ) (probe : LogicalProbe) → Valid st cs (length ws) (length fs) → chooseOf st cs ws fs id ≡ chosen.Slot case level slot probe
-      → phi (level + 1) (probe .0 + 1) ≤ st .limits .«hit_query_position_cap»
-      → Outcome st cs ws fs id (done (answer.Inserted (insertionOf (st .n) case level slot probe)) (counted st) (addedTo cs level) (set ws slot id) (set fs slot 1))

@@ -1,41 +1,30 @@
 -- Laws of an insertion's choice of a slot. Assumes nothing.
 use mathlib.Core.Bool.{Bool, true, false}
 use mathlib.Core.List.{List}
-use mathlib.Core.Path.{_≡_, refl, sym, ap, subst, _∙_}
+use mathlib.Core.Path.{_≡_, refl, sym, _∙_}
 use Prim.Native.Nat.{ℕ, zero, suc, _+_}
 use native.Mathlib.Omega.{arith}
-use lib.Dec.{ltb, leb}
-use lib.ListN.{length, set}
-use borrow.Author.Tests.{ltb-false, leb-true, leb-false}
+use lib.Dec.{leb}
+use borrow.Author.Tests.{leb-true, leb-false}
 use Rattle.words.specs.declared.place.GlobalSlot.{GlobalSlot}
 use Rattle.words.specs.declared.place.LogicalProbe.{LogicalProbe}
 use Rattle.words.specs.Pick.{pick}
-use Rattle.geometry.specs.declared.config.Gated.{Gated}
-use Rattle.geometry.specs.declared.config.Gated.the-variants as gated
 use Rattle.geometry.specs.Elastic.{lengthAt}
-use Rattle.elastic_probe.specs.Phi.{phi}
 use Rattle.probe.specs.Word.{elasticKeyOf}
 use Rattle.elastic.specs.declared.state.State.{State}
 use Rattle.elastic.specs.declared.route.Sought.{Sought}
 use Rattle.elastic.specs.declared.route.Sought.the-variants as sought
 use Rattle.elastic.specs.declared.route.Located.{Located}
 use Rattle.elastic.specs.declared.route.Located.the-variants as located
-use Rattle.elastic.specs.State.{gateOf}
-use Rattle.elastic.specs.StateLaws.{gate-valid}
 use Rattle.elastic.specs.Reading.{seekOf, firstOf}
 use Rattle.elastic_steps.specs.declared.answer.Case.{Case}
 use Rattle.elastic_steps.specs.declared.answer.InsertRefusal.the-variants as refusal
-use Rattle.elastic_steps.specs.declared.answer.InsertAnswer.{InsertAnswer}
-use Rattle.elastic_steps.specs.declared.answer.InsertAnswer.the-variants as answer
 use Rattle.elastic_steps.specs.declared.answer.Chosen.{Chosen}
 use Rattle.elastic_steps.specs.declared.answer.Chosen.the-variants as chosen
-use Rattle.elastic_steps.specs.Insert.{uniformBy, uniformOf, budgetedBy, budgetedOf, freeAt, currentLow, nextLow, pairBy, pairOf, stepsOf, chooseBy, chooseOf, Done, done, counted, addedTo, insertionOf, placeBy, insertBy, insertOf}
+use Rattle.elastic_steps.specs.Insert.{uniformBy, uniformOf, budgetedBy, budgetedOf, freeAt, currentLow, nextLow, pairBy, pairOf, stepsOf, chooseBy, chooseOf}
+use Rattle.elastic_insert.specs.TableLaws.{never}
 use Rattle.elastic_laws.specs.Schedule.{batchNow, Takes, alone, current, next}
-use Rattle.elastic_laws.specs.Choice.{Searched, Chose, BothLow, Stepped, Outcome, kept, stored}
-
--- two answers that differ are not equal
-pub never : {A : Type 0} → _≡_ {A = ℕ} 0 1 → A
-never z = absurd (omega arith)
+use Rattle.elastic_laws.specs.Choice.{Searched, Chose, BothLow, Stepped}
 
 -- ---- searches
 
@@ -165,26 +154,3 @@ module _ (st : State) (cs ws fs : List ℕ) (id : ℕ) where
 
   pub schedule-stepped : chooseOf st cs ws fs id ≡ chosen.Refused refusal.Schedule → Stepped st cs ws fs id (chosen.Refused refusal.Schedule)
   schedule-stepped h = stepped _ (λ s q. never (cc)) (λ q. never (cc)) h
-
-  -- An insertion is refused and changes nothing, or it stores the identity in the slot that was chosen.
-  pub insert-outcome : Outcome st cs ws fs id (insertOf st cs ws fs id)
-  unfolding insertOf placeBy
-  insert-outcome = go (gateOf st cs (length ws) (length fs)) refl
-    where
-      place : gateOf st cs (length ws) (length fs) ≡ gated.Passed → (x : Chosen) → chooseOf st cs ws fs id ≡ x → Outcome st cs ws fs id (placeBy st cs ws fs id x)
-      place p (chosen.Refused r) e = kept r (λ q. e ∙ ap chosen.Refused q)
-      place p (chosen.Slot case level slot probe) e = by (ltb (st .limits .«hit_query_position_cap») (phi (level + 1) (probe .0 + 1))) refl
-        where
-          by : (y : Bool) → ltb (st .limits .«hit_query_position_cap») (phi (level + 1) (probe .0 + 1)) ≡ y
-              → Outcome st cs ws fs id (pick y (done (answer.Refused refusal.Position) st cs ws fs)
-              (done (answer.Inserted (insertionOf (st .n) case level slot probe)) (counted st) (addedTo cs level) (set ws slot id) (set fs slot 1)))
-          by true d = kept refusal.Position (λ q. never (cc))
-          by false d = stored case level slot probe (gate-valid st cs (length ws) (length fs) p) e (ltb-false _ _ d)
-
-      go : (g : Gated) → gateOf st cs (length ws) (length fs) ≡ g → Outcome st cs ws fs id (insertBy g st cs ws fs id)
-      go (gated.Refused g) e = kept (refusal.Gate g) (λ q. never (cc))
-      go gated.Passed e = place e (chooseOf st cs ws fs id) refl
-
--- what holds of what an insertion leaves, of state and lists by name
-pub leaves : (P : State → List ℕ → List ℕ → List ℕ → Type 0) {d : Done} {a : InsertAnswer} {st : State} {cs ws fs : List ℕ} → d ≡ done a st cs ws fs → P (d .st) (d .counts) (d .words) (d .flags) → P st cs ws fs
-leaves P h p = subst (λ (d : Done). P (d .st) (d .counts) (d .words) (d .flags)) h p

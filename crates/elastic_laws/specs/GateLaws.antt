@@ -25,10 +25,8 @@ use Rattle.elastic.specs.StateLaws.{demand-facts, both-on, open-facts}
 use Rattle.elastic.specs.Reading.{vacantAt}
 use Rattle.elastic_steps.specs.Insert.{Done, insertOf}
 use Rattle.elastic_steps.specs.InsertLaws.{choose-taken}
-use Rattle.elastic_insert.specs.Table.{occupied, Reached, fresh, more}
-use Rattle.elastic_insert.specs.TableLaws.{reached-kept}
-use Rattle.elastic_laws.specs.Choice.{Outcome, kept, stored}
-use Rattle.elastic_laws.specs.ChoiceLaws.{insert-outcome, leaves}
+use Rattle.elastic_insert.specs.Table.{Outcome, kept, stored, occupied, Reached, fresh, more}
+use Rattle.elastic_insert.specs.TableLaws.{insert-outcome, leaves, reached-kept}
 use Rattle.elastic_laws.specs.Lasting.{Lasting}
 
 -- ---- lists of counts

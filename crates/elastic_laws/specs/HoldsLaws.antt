@@ -14,7 +14,7 @@ use Rattle.words.specs.Pick.{pick}
 use Rattle.elastic.specs.declared.route.Located.the-variants as located
 use Rattle.elastic.specs.Reading.{holdsAt, firstFrom, firstOf}
 use Rattle.elastic.specs.ReadingLaws.{holds-vacant, holds-word}
-use Rattle.elastic_laws.specs.ChoiceLaws.{never}
+use Rattle.elastic_insert.specs.TableLaws.{never}
 
 holds-here : (ws fs : List ℕ) (id s : ℕ) → (getD fs s 0 ≡ 0 → ⊥) → getD ws s 0 ≡ id → holdsAt ws fs id s ≡ true
 holds-here ws fs id s f w = sym (holds-word ws fs id s f) ∙ eq-eqb (getD ws s 0) id w

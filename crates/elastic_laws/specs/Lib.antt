@@ -11,3 +11,4 @@ pub mod WalkLaws
 pub mod HoldsLaws
 pub mod LookupLaws
 pub mod Examples
+pub mod Never

@@ -52,3 +52,19 @@ pub record Placed (st : State) (ws fs : List ℕ) (id : ℕ) (i : Insertion) : T
   pub near : i .phi ≤ st .limits .«hit_query_position_cap»
   pub holds : holdsAt ws fs id (i .location .«global_slot» .0) ≡ true
   pub only : (s : ℕ) → holdsAt ws fs id s ≡ true → s ≡ i .location .«global_slot» .0
+
+-- an identity that was inserted: some insertion of it was answered as inserted
+abbrev pub Inserted : (n e seed : ℕ) (limits : Limits) (id : ℕ) (st : State) (cs ws fs : List ℕ) → Type 0
+Inserted n e seed limits id st cs ws fs = (i : Insertion) × WentIn n e seed limits id i st cs ws fs
+
+-- a query's answer that names no slot: ABSENT, or the refusal of a range reduction at a position within the cap
+pub data Unanswered (reads : ℕ → Reading) (cap : ℕ) : QueryAnswer → Type 0 where
+  absent : Unanswered reads cap query.Absent
+  stopped : (position : ℕ) (r : RangeRefusal) → 0 < position → position ≤ cap → reads position ≡ reading.Refused r → Unanswered reads cap (query.Range r)
+
+-- a query's answer, exactly: of an identity that was inserted the slot of its insertion by its phi, of any other none; RANGE is the way out of both
+pub data Exactly (n e seed : ℕ) (limits : Limits) (id : ℕ) (st : State) (cs ws fs : List ℕ) : QueryAnswer → Type 0 where
+  member : (a : QueryAnswer) (i : Insertion) → WentIn n e seed limits id i st cs ws fs
+      → Answers (readAt (routeOf st id) (st .plan .levels)) (i .location .«global_slot» .0) (i .phi) a → Exactly n e seed limits id st cs ws fs a
+  stranger : (a : QueryAnswer) → (Inserted n e seed limits id st cs ws fs → ⊥) → Unanswered (readAt (routeOf st id) (st .plan .levels)) (st .limits .«hit_query_position_cap») a
+      → Exactly n e seed limits id st cs ws fs a

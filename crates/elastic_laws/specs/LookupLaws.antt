@@ -2,7 +2,7 @@
 use mathlib.Core.Bool.{Bool, true, false}
 use mathlib.Core.List.{List}
 use mathlib.Core.Path.{_≡_, refl, sym, ap, _∙_}
-use Prim.Native.Nat.{ℕ, zero, suc, _+_}
+use Prim.Native.Nat.{ℕ, zero, suc, _+_, _≤_}
 use native.Mathlib.Omega.{arith}
 use lib.Dec.{eqb}
 use lib.ListN.{length, getD, set}
@@ -21,17 +21,20 @@ use Rattle.elastic.specs.declared.state.Limits.{Limits}
 use Rattle.elastic.specs.declared.state.State.{State}
 use Rattle.elastic.specs.StateLaws.{open-facts}
 use Rattle.elastic.specs.Reading.{readingOf, vacantAt, holdsAt, seekBy, seekFrom, firstOf}
-use Rattle.elastic_query.specs.Query.{queryOf}
+use Rattle.elastic_query.specs.declared.query.Finding.{Finding}
+use Rattle.elastic_query.specs.declared.query.QueryAnswer.{QueryAnswer}
+use Rattle.elastic_query.specs.declared.query.QueryAnswer.the-variants as query
+use Rattle.elastic_query.specs.Query.{positionsOf, queryOf}
 use Rattle.elastic_steps.specs.declared.answer.Insertion.{Insertion}
 use Rattle.elastic_steps.specs.declared.answer.InsertAnswer.the-variants as answer
 use Rattle.elastic_steps.specs.Insert.{Done, counted, addedTo, insertionOf, insertOf}
 use Rattle.elastic_steps.specs.InsertLaws.{Taken, choose-taken}
-use Rattle.elastic_insert.specs.Table.{Reached, fresh, more}
+use Rattle.elastic_insert.specs.Table.{Outcome, kept, stored, Reached, fresh, more}
+use Rattle.elastic_insert.specs.TableLaws.{never, insert-outcome, leaves, reached-kept}
 use Rattle.elastic_laws.specs.Schedule.{batchNow}
-use Rattle.elastic_laws.specs.Choice.{Outcome, kept, stored}
-use Rattle.elastic_laws.specs.ChoiceLaws.{never, steps-chose, slot-stepped, insert-outcome, leaves}
+use Rattle.elastic_laws.specs.ChoiceLaws.{steps-chose, slot-stepped}
 use Rattle.elastic_laws.specs.GateLaws.{reached-lasting, reached-gate}
-use Rattle.elastic_laws.specs.Lookup.{WentIn, now, later, readAt, routeOf, Answers, Placed}
+use Rattle.elastic_laws.specs.Lookup.{WentIn, now, later, readAt, routeOf, Answers, found, refused, Placed, Inserted}
 use Rattle.elastic_laws.specs.HoldsLaws.{holds-flag, holds-apart, holds-written, holds-only-written, nowhere}
 use Rattle.elastic_laws.specs.WalkLaws.{positions-answer}
 
@@ -187,11 +190,33 @@ found-by-phi {id = id} {i} {st} {cs} {ws} {fs} w =
     (positions-answer (routeOf st id) (holdsAt ws fs id) (st .plan .levels) (i .location .«global_slot» .0) (i .phi) (p .words) (p .only) (p .holds) (i .location .level) (p .probe)
     (st .limits .«hit_query_position_cap») (omega (arith, levels, p .has)) (p .phi-is) (p .near) (p .reads))
 
--- A query of any identity that a table from fresh holds answers the slot that holds it at a position no later than the phi of the insertion by which it went in, unless a range reduction is refused at a position before that.
-pub stored-found : {n e seed : ℕ} {limits : Limits} {st : State} {cs ws fs : List ℕ} → Reached n e seed limits st cs ws fs → (id s : ℕ) → holdsAt ws fs id s ≡ true
-    → (i : Insertion) × WentIn n e seed limits id i st cs ws fs × Answers (readAt (routeOf st id) (st .plan .levels)) s (i .phi) (queryOf st cs ws fs id)
-stored-found {n} {e} {seed} {limits} {st} {cs} {ws} {fs} r id s h = go (stored-went-in r id s h)
-  where
-    go : (i : Insertion) × WentIn n e seed limits id i st cs ws fs × (i .location .«global_slot» .0 ≡ s)
-        → (i : Insertion) × WentIn n e seed limits id i st cs ws fs × Answers (readAt (routeOf st id) (st .plan .levels)) s (i .phi) (queryOf st cs ws fs id)
-    go w = (w .0, w .1, rw (← (w .2)) (found-by-phi (w .1)))
+-- ---- who is answered
+
+-- what an answer that names a slot says, where it is one of those that an inserted identity has
+pub answers-found : {reads : ℕ → Reading} {slot last : ℕ} (a : QueryAnswer) (f : Finding) → Answers reads slot last a → a ≡ query.Found f → (f .«global_slot» .0 ≡ slot) × (f .position ≤ last)
+answers-found a f (found g s p) e =
+    let q : g ≡ f = cc in
+    (rw (← q) s, rw (← q) p)
+answers-found a f (refused position r some l m) e = never (cc)
+
+module _ {n e seed : ℕ} {limits : Limits} {st : State} {cs ws fs : List ℕ} (r : Reached n e seed limits st cs ws fs) (id : ℕ) where
+  -- a query of a table from fresh is its walk: no test refuses it
+  pub query-walks : queryOf st cs ws fs id ≡ positionsOf (routeOf st id) (holdsAt ws fs id) (st .plan .levels) (st .limits .«hit_query_position_cap»)
+  unfolding queryOf
+  query-walks = rw (reached-gate r)
+
+  -- an identity that was not inserted is in no slot
+  pub stranger-nowhere : (Inserted n e seed limits id st cs ws fs → ⊥) → (s : ℕ) → holdsAt ws fs id s ≡ false
+  stranger-nowhere not s = go (holdsAt ws fs id s) refl
+    where
+      go : (x : Bool) → holdsAt ws fs id s ≡ x → holdsAt ws fs id s ≡ false
+      go false q = q
+      go true q = let w = stored-went-in r id s q in absurd (not (w .0, w .1))
+
+  -- an identity that a scan does not find was not inserted
+  pub nowhere-stranger : firstOf ws fs id ≡ located.Nowhere → Inserted n e seed limits id st cs ws fs → ⊥
+  nowhere-stranger q w =
+      let size : length fs ≡ length ws = reached-kept r .counts .flags-size ∙ sym (reached-lasting r .words-size) in
+      let h = went-placed (w .1) .holds in
+      let z = nowhere ws fs id size q (w .0 .location .«global_slot» .0) in
+      never (cc)

@@ -6,12 +6,8 @@ use native.Mathlib.Omega.{arith}
 use lib.ListN.{length, getD, take}
 use Rattle.geometry.specs.Config.{Configured, maximum}
 use Rattle.geometry.specs.Elastic.{total, levelsOf, lengthsOf, lengthAt, ceilThreeQuarters, laterQuota, laterQuotas, uncutQuotas, cut, quotasOf, batchOf, IsBatch}
-use Rattle.geometry.specs.ElasticLaws.{quotas-total, total-take-step, reserve-quarter, uncut-later, lengths-length, batch-is}
+use Rattle.geometry.specs.ElasticLaws.{total-take-step, reserve-quarter, uncut-later, lengths-length, batch-is}
 use Rattle.elastic_laws.specs.Schedule.{nextLimit, currentLimit, filledTo, quotasBefore}
-
--- The batch quotas of a table sum to exactly the largest number of its members.
-pub quotas-sum-to-maximum : (n e : ℕ) → Configured n e → total (quotasOf n e) ≡ maximum n e
-quotas-sum-to-maximum n e s = quotas-total n e s
 
 -- a level's limit as next is not above that as current
 pub limits-order : (n e level : ℕ) → Configured n e → nextLimit n level ≤ currentLimit n e level

@@ -19,13 +19,13 @@ use Rattle.elastic.specs.StateLaws.{open-facts}
 use Rattle.elastic_steps.specs.declared.answer.InsertAnswer.the-variants as answer
 use Rattle.elastic_steps.specs.declared.answer.InsertRefusal.the-variants as refusal
 use Rattle.elastic_steps.specs.Insert.{Done, counted, addedTo, insertOf}
-use Rattle.elastic_insert.specs.Table.{Reached, fresh, more}
-use Rattle.elastic_insert.specs.TableLaws.{reached-kept}
+use Rattle.elastic_insert.specs.Table.{Outcome, kept, stored, Reached, fresh, more}
+use Rattle.elastic_insert.specs.TableLaws.{insert-outcome, leaves, reached-kept}
 use Rattle.elastic_laws.specs.Schedule.{quotasBefore, batchNow, InBatch, Takes, alone, current, next, Scheduled, answersOf}
 use Rattle.elastic_laws.specs.QuotaLaws.{batch-uncut}
 use Rattle.elastic_laws.specs.BatchLaws.{batch-fresh, batch-takes, batches-end, never-both-full}
-use Rattle.elastic_laws.specs.Choice.{BothLow, Outcome, kept, stored}
-use Rattle.elastic_laws.specs.ChoiceLaws.{steps-chose, steps-schedule, slot-stepped, schedule-stepped, insert-outcome, leaves}
+use Rattle.elastic_laws.specs.Choice.{BothLow}
+use Rattle.elastic_laws.specs.ChoiceLaws.{steps-chose, steps-schedule, slot-stepped, schedule-stepped}
 
 -- ---- a table with room
 
@@ -133,16 +133,11 @@ never-schedule {st = st} {cs} {ws} {fs} r id h =
     let w = schedule-both-low st cs ws fs id (insertOf st cs ws fs id) (insert-outcome st cs ws fs id) h in
     never-both-low st cs (reached-scheduled r) (w .0) (w .1)
 
-answers-never : {n e seed : ℕ} {limits : Limits} {st : State} {cs ws fs : List ℕ} → Reached n e seed limits st cs ws fs → (ids : List ℕ) → List·Memᴰ (answer.Refused refusal.Schedule) (answersOf st cs ws fs ids) → ⊥
+-- and so of a sequence of them
+pub answers-never : {n e seed : ℕ} {limits : Limits} {st : State} {cs ws fs : List ℕ} → Reached n e seed limits st cs ws fs → (ids : List ℕ) → List·Memᴰ (answer.Refused refusal.Schedule) (answersOf st cs ws fs ids) → ⊥
 unfolding answersOf
 answers-never r [] m = List·Memᴰ·not-nil m
 answers-never {st = st} {cs} {ws} {fs} r (id ∷ ids) m =
     let d = insertOf st cs ws fs id in
     let on = answers-never (more st cs ws fs id (d .answer) (d .st) (d .counts) (d .words) (d .flags) r refl) ids in
     ⊎-elim (λ e. never-schedule r id (sym e)) on (List·Memᴰ·cases-cons m)
-
--- No sequence of insertions from a fresh elastic table meets SCHEDULE.
-pub no-sequence-meets-schedule : (n e seed : ℕ) (limits : Limits) (cs₀ ws₀ fs₀ : List ℕ) → length cs₀ ≡ 32
-    → (st : State) (cs ws fs : List ℕ) → openOf n e seed limits cs₀ ws₀ fs₀ ≡ opened (opening.Open st) cs ws fs
-    → (ids : List ℕ) → List·Memᴰ (answer.Refused refusal.Schedule) (answersOf st cs ws fs ids) → ⊥
-no-sequence-meets-schedule n e seed limits cs₀ ws₀ fs₀ l st cs ws fs h ids m = answers-never (fresh cs₀ ws₀ fs₀ st cs ws fs l h) ids m

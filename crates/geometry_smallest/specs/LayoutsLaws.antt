@@ -1,7 +1,8 @@
 -- Laws of stretches without a layout: the jump, and the search that jumps. Assumes nothing.
 use mathlib.Core.Path.{_≡_, refl, subst}
 use Prim.Native.Nat.{ℕ, zero, suc, _+_, _-_, _*_, _/_, _%_, _^_, _≤_, _<_, _∣_, min, max}
-use native.Mathlib.Nat.{lt-of-not-le, le-antisymm, div-le-self, div-add-mod, mod-lt, mod-eq-zero-of-dvd, dvd-refl, dvd-add, dvd-mul-right, mul-le-mul, mul-le-mul-left, mul-le-mul-right, mul-add, mul-one}
+use native.Mathlib.Nat.{lt-of-not-le, le-antisymm, div-le-self, div-add-mod, mod-lt, mod-eq-zero-of-dvd, dvd-refl}
+use native.Mathlib.Nat.{dvd-add, dvd-mul-right, mul-le-mul, mul-le-mul-left, mul-le-mul-right, mul-add, mul-one}
 use native.Mathlib.Decide.{decLe}
 use native.Mathlib.Omega.{arith}
 use lib.Pow.{pow-mono, pow-pos, shr-mono}

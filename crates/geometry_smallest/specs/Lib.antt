@@ -10,3 +10,4 @@ pub mod Search
 pub mod SearchLaws
 pub mod Smallest
 pub mod SmallestLaws
+pub mod Examples

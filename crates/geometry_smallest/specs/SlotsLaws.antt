@@ -58,7 +58,11 @@ module _ (count e power : ℕ) (some : 0 < count) (exponent : 0 < e) (is : power
   pub needed-some : Needed count e (count + (count - 1) / (power - 1))
   needed-some =
       let a = power-two in
-      record { enough = λ n l. rw (← is) (part-enough count power (power - 1) some one-less (omega arith) n l); least = λ n l. part-least count power (power - 1) some one-less (omega arith) n (rw (← is) at l) }
+      record {
+        enough = λ n l. rw (← is) (part-enough count power (power - 1) some one-less (omega arith) n l);
+        least = λ n l. part-least count power
+            (power - 1) some one-less (omega arith) n (rw (← is) at l);
+      }
 
 -- where the search starts
 module _ (count e first need : ℕ) (is : Needed count e need) where

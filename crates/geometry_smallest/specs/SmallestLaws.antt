@@ -134,6 +134,18 @@ module _ (count e first last : ℕ) (before : List ℕ) where
           let q : Planned r e before (PlanRefused g) after = rw h at planned in
           never-refused count e first last gate r is g (planned-refused r e before after g q .0)
 
+-- an n that is found has a slot for each member, and fits 33 bits
+pub found-fits : (count e first last : ℕ) (before after : List ℕ) (r : SmallestFunnel) (n : ℕ) (p : FunnelPlan)
+    → r ≡ Found n p → Answer count e first last before r after → (count ≤ n) × (n ≤ 4294967296)
+unfolding Answer
+found-fits count e first last before after r n p h a =
+    let b : Answer count e first last before (Found n p) after = rw h at a in
+    let t = b .1 .holds in
+    let f = gate-facts e first last (b .0) in
+    let enough = t .enough in
+    let to = t .to in
+    (omega arith, omega arith)
+
 -- the answer and the counts at exit are one
 pub answer-unique : (count e first last : ℕ) (old : List ℕ) (r t : SmallestFunnel) (a b : List ℕ) → Answer count e first last old r a → Answer count e first last old t b → (r ≡ t) × (a ≡ b)
 unfolding Answer

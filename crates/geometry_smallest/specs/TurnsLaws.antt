@@ -1,13 +1,15 @@
 -- The search is short: never more than 12e + 3 turns. Assumes nothing.
 use mathlib.Core.Path.{_≡_, refl, sym, ap, subst, _∙_}
 use Prim.Native.Nat.{ℕ, zero, suc, _+_, _-_, _*_, _/_, _%_, _^_, _≤_, _<_, _∣_, min, max}
-use native.Mathlib.Nat.{lt-of-not-le, le-antisymm, le-div-iff-mul-le, div-lt-iff-lt-mul, div-add-mod, mod-lt, dvd-of-mod-eq-zero, dvd-mul-right, dvd-add, dvd-refl, mul-le-mul-right, mul-le-mul-left, mul-left-comm, add-mul, one-mul, mul-one, lt-of-mul-lt-mul-right, pow-suc}
+use native.Mathlib.Nat.{lt-of-not-le, le-antisymm, le-div-iff-mul-le, div-lt-iff-lt-mul, div-add-mod, mod-lt, dvd-of-mod-eq-zero, dvd-mul-right, dvd-add}
+use native.Mathlib.Nat.{dvd-refl, mul-le-mul-right, mul-le-mul-left, mul-left-comm, add-mul, one-mul, mul-one, lt-of-mul-lt-mul-right, pow-suc}
 use native.Mathlib.Decide.{decLe}
 use native.Mathlib.Omega.{arith}
 use lib.Pow.{pow-pos}
 use Rattle.geometry.specs.Special.{loglog, specialLeast, specialMost, SpecialLength, FoundFor}
 use Rattle.geometry_smallest.specs.Layouts.{Next, LengthFrom, SlotsFrom, Alike}
-use Rattle.geometry_smallest.specs.LayoutsLaws.{loglog-mono, loglog-17, length-here, length-up, slots-part, slots-main, next-of, next-end, next-jump, next-bare, alike-256, alike-65536, alike-last}
+use Rattle.geometry_smallest.specs.LayoutsLaws.{loglog-mono, loglog-17, length-here, length-up, slots-part, slots-main}
+use Rattle.geometry_smallest.specs.LayoutsLaws.{next-of, next-end, next-jump, next-bare, alike-256, alike-65536, alike-last}
 use Rattle.geometry_smallest.specs.Turns.{Ends, past, here, turn}
 
 -- more turns do no harm
@@ -245,14 +247,17 @@ module _ (e last : ℕ) (low : 3 ≤ e) where
             weaken
             (2 * e + 1 + k)
             (omega arith)
-            (turn t (next-jump e n s t length slots end x f i) (settled t s k end (omega arith) (alike-from t x (omega arith) f) (omega arith) (rw j (length .whole)) (slots-near s t (omega arith) slots) (slots .part) (slots .main) tail))
+            (turn t (next-jump e n s t length slots end x f i)
+            (settled t s k end (omega arith) (alike-from t x (omega arith) f) (omega arith) (rw j (length .whole)) (slots-near s t (omega arith) slots) (slots .part)
+            (slots .main) tail))
         go (yes f) (yes h) =
             let p = slots .part in
             let m = slots .main in
             weaken (2 * e + 1 + k) (omega arith) (settled n s k end a x long (length .whole) (stays h) (omega arith) (omega arith) tail)
 
     -- the walk to the last n of a length, and one further: q
-    module _ (first s t q c : ℕ) (low-first : 16 < first) (x : Alike first end) (slots : SlotsFrom e s t) (long : 4 * loglog first ≤ s) (whole : 2 * loglog first ∣ s / 2) (here-t : t ≤ first) (is : q ≡ s * 2 ^ (e + 1) + 1) (within : q ≤ end) (rest : Ends e last q c) where
+    module _ (first s t q c : ℕ) (low-first : 16 < first) (x : Alike first end) (slots : SlotsFrom e s t) (long : 4 * loglog first ≤ s)
+        (whole : 2 * loglog first ∣ s / 2) (here-t : t ≤ first) (is : q ≡ s * 2 ^ (e + 1) + 1) (within : q ≤ end) (rest : Ends e last q c) where
       one-more : (n : ℕ) → first ≤ n → n < q → (r : ℕ) → Next e n r → r ≡ n + 1
       one-more n a b r y =
           let g = x .alike n a (omega arith) in
@@ -303,7 +308,8 @@ module _ (e last : ℕ) (low : 3 ≤ e) where
             let p = power-facts e low .0 in
             near (s * 2 ^ (e + 1) + 1) (u .0) (v .0) (omega arith) y (u .1) (v .1) (λ z. omega arith)
 
-        go : (s t : ℕ) → LengthFrom (specialLeast n e) (2 * loglog n) s → SlotsFrom e s t → Dec (t ≤ n) → Dec (n + 2 * e ≤ s * 2 ^ (e + 1) + 1) → Dec (s * 2 ^ (e + 1) + 1 ≤ end) → Ends e last n (4 * e + 1 + k)
+        go : (s t : ℕ) → LengthFrom (specialLeast n e) (2 * loglog n) s → SlotsFrom e s t → Dec (t ≤ n) → Dec (n + 2 * e ≤ s * 2 ^ (e + 1) + 1)
+            → Dec (s * 2 ^ (e + 1) + 1 ≤ end) → Ends e last n (4 * e + 1 + k)
         go s t length slots (no f) u v = let i = lt-of-not-le f in weaken (4 * e + 1 + k) (omega arith) (near n s t a x length slots (λ h. absurd (omega arith)))
         go s t length slots (yes h) (yes u) v = weaken (4 * e + 1 + k) (omega arith) (near n s t a x length slots (λ z. u))
         go s t length slots (yes h) (no f) (no v) =
@@ -315,7 +321,8 @@ module _ (e last : ℕ) (low : 3 ≤ e) where
             let i = lt-of-not-le f in
             let l = least-covers e n s (length .from) in
             let g : 4 * loglog n ≤ s = omega (arith, least-length n, length .from) in
-            walk n s t (s * 2 ^ (e + 1) + 1) (2 * e + 1 + k) a x slots g (length .whole) h refl v (after s l v) (s * 2 ^ (e + 1) + 1 - n) n (4 * e + 1 + k) (omega arith) (omega arith) (omega arith) (omega arith)
+            walk n s t (s * 2 ^ (e + 1) + 1) (2 * e + 1 + k) a x slots g (length .whole) h refl v (after s l v) (s * 2 ^ (e + 1) + 1 - n) n (4 * e + 1 + k) (omega arith)
+            (omega arith) (omega arith) (omega arith)
 
 -- the search takes at most 12e + 3 turns, from any n above 16: three stretches of the same g, of at most 2 * beta + 1 turns each
 module _ (e last : ℕ) (low : 3 ≤ e) (top : last ≤ 4294967296) where

@@ -48,7 +48,7 @@ pub fn smallest_funnel(
 }
 
 // The tests N, ZEROEXP, SIZE, EXPONENT of the question.
-fn smallest_gate(e: u32, first: u64, last: u64) -> Gated
+pub fn smallest_gate(e: u32, first: u64, last: u64) -> Gated
     ensures { λ r. ⌜ r ≡ smallestGate e first last ⌝ }
 {
     if first < 2 {

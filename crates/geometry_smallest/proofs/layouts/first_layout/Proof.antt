@@ -34,10 +34,12 @@ next-slots-requires : tie.Need-next-slots-requires Inv-loop μ-loop
 next-slots-requires c κs = (omega arith, omega arith, omega arith, omega arith)
 
 sub-turns : tie.Need-sub-turns Inv-loop μ-loop
-sub-turns c = let m = (let b = c .before .before .before .before in ends-more _ _ _ _ _ _ (b .loop .inv .2) (omega arith) (c .before .if1 .left) (c .before .before .special-len-of .ensures) (c .next-slots .ensures)) in omega (arith, m .0)
+sub-turns c = let m = (let b = c .before .before .before .before in ends-more _ _ _ _ _ _ (b .loop .inv .2) (omega arith) (c .before .if1 .left)
+    (c .before .before .special-len-of .ensures) (c .next-slots .ensures)) in omega (arith, m .0)
 
 loop-less : tie.Need-loop-less Inv-loop μ-loop
-loop-less c = let m = (let b = c .before .before .before .before in ends-more _ _ _ _ _ _ (b .loop .inv .2) (omega arith) (c .before .if1 .left) (c .before .before .special-len-of .ensures) (c .next-slots .ensures)) in omega (arith, m .0)
+loop-less c = let m = (let b = c .before .before .before .before in ends-more _ _ _ _ _ _ (b .loop .inv .2) (omega arith) (c .before .if1 .left)
+    (c .before .before .special-len-of .ensures) (c .next-slots .ensures)) in omega (arith, m .0)
 
 loop-again : tie.Need-loop-again Inv-loop μ-loop
 loop-again c =

@@ -23,8 +23,18 @@ length-from-requires c κs =
 
 slots-from-requires : tie.Need-slots-from-requires
 slots-from-requires c κs =
-    let p = c .before .before .before .pre in
-    (omega (arith, c .length-from .ensures .most, c .before .special-least .ensures, least-small _ (c .before .before .before .args .e) (p .2) (p .3), c .before .before .base-two-loglog-ceiling .ensures, loglog-facts _ (p .3) .most), p .1)
+    let p = c .before .before .before .pre in (
+      omega (
+        arith,
+        c .length-from .ensures .most,
+        c .before .special-least .ensures,
+        least-small _ (c .before .before .before .args .e) (p .2)
+            (p .3),
+        c .before .before .base-two-loglog-ceiling .ensures,
+        loglog-facts _ (p .3) .most,
+      ),
+      p .1,
+    )
 
 last-alike-requires : tie.Need-last-alike-requires
 last-alike-requires c κs = search needs
@@ -35,12 +45,14 @@ add-result c = search needs
 returns : tie.Need-returns
 returns c =
     let d = c .before .before .before in
-    next-end _ _ _ _ (length-at _ _ _ _ _ (d .before .special-least .ensures) (d .before .before .base-two-loglog-ceiling .ensures) (d .length-from .ensures)) (c .before .before .slots-from .ensures) _ (c .before .last-alike .ensures) (c .if1 .taken)
+    next-end _ _ _ _ (length-at _ _ _ _ _ (d .before .special-least .ensures) (d .before .before .base-two-loglog-ceiling .ensures) (d .length-from .ensures))
+    (c .before .before .slots-from .ensures) _ (c .before .last-alike .ensures) (c .if1 .taken)
 
 returns-2 : tie.Need-returns-2
 returns-2 c =
     let d = c .before .before .before .before in
-    next-jump _ _ _ _ (length-at _ _ _ _ _ (d .before .special-least .ensures) (d .before .before .base-two-loglog-ceiling .ensures) (d .length-from .ensures)) (c .before .before .before .slots-from .ensures) _ (c .before .before .last-alike .ensures) (c .before .if1 .left) (c .if2 .taken)
+    next-jump _ _ _ _ (length-at _ _ _ _ _ (d .before .special-least .ensures) (d .before .before .base-two-loglog-ceiling .ensures) (d .length-from .ensures))
+    (c .before .before .before .slots-from .ensures) _ (c .before .before .last-alike .ensures) (c .before .if1 .left) (c .if2 .taken)
 
 add-result-2 : tie.Need-add-result-2
 add-result-2 c = search needs
@@ -48,7 +60,8 @@ add-result-2 c = search needs
 returns-3 : tie.Need-returns-3
 returns-3 c =
     let d = c .before .before .before .before in
-    next-one _ _ _ _ (length-at _ _ _ _ _ (d .before .special-least .ensures) (d .before .before .base-two-loglog-ceiling .ensures) (d .length-from .ensures)) (c .before .before .before .slots-from .ensures) _ (c .before .before .last-alike .ensures) (c .before .if1 .left) (c .if2 .left)
+    next-one _ _ _ _ (length-at _ _ _ _ _ (d .before .special-least .ensures) (d .before .before .base-two-loglog-ceiling .ensures) (d .length-from .ensures))
+    (c .before .before .before .slots-from .ensures) _ (c .before .before .last-alike .ensures) (c .before .if1 .left) (c .if2 .left)
 
 pub next-slots-spec : {M : Type 1} → statement M
 next-slots-spec =

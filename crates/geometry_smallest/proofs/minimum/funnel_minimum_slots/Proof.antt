@@ -43,20 +43,25 @@ required-slots-requires c κs =
 returns-2 : tie.Need-returns-2 Inv-loop μ-loop
 returns-2 c =
     let b = c .before .before .before in
-    raised-none _ _ _ (b .loop .inv .0) (b .loop .inv .1) _ _ _ (ap (λ (x : ℕ). 4 * x) (c .before .before .base-two-loglog-ceiling .ensures)) (b .before .power-of-two .ensures) (c .before .required-slots .ensures) (c .if2 .taken)
+    raised-none _ _ _ (b .loop .inv .0) (b .loop .inv .1) _ _ _ (ap (λ (x : ℕ). 4 * x) (c .before .before .base-two-loglog-ceiling .ensures))
+    (b .before .power-of-two .ensures) (c .before .required-slots .ensures) (c .if2 .taken)
 
 returns-3 : tie.Need-returns-3 Inv-loop μ-loop
 returns-3 c =
     let b = c .before .before .before .before in
-    raised-found _ _ _ (b .loop .inv .0) (b .loop .inv .1) _ _ _ (ap (λ (x : ℕ). 4 * x) (c .before .before .before .base-two-loglog-ceiling .ensures)) (b .before .power-of-two .ensures) (c .before .before .required-slots .ensures) (c .before .if2 .left) (c .if3 .taken)
+    raised-found _ _ _ (b .loop .inv .0) (b .loop .inv .1) _ _ _ (ap (λ (x : ℕ). 4 * x) (c .before .before .before .base-two-loglog-ceiling .ensures))
+    (b .before .power-of-two .ensures) (c .before .before .required-slots .ensures) (c .before .if2 .left) (c .if3 .taken)
 
 loop-less : tie.Need-loop-less Inv-loop μ-loop
 loop-less c = omega (arith, c .if3 .left, c .before .before .before .before .loop .inv .1)
 
 loop-again : tie.Need-loop-again Inv-loop μ-loop
 loop-again c =
-    let b = c .before .before .before .before in
-    (raised-more _ _ _ (b .loop .inv .0) (b .loop .inv .1) _ _ _ (ap (λ (x : ℕ). 4 * x) (c .before .before .before .base-two-loglog-ceiling .ensures)) (b .before .power-of-two .ensures) (c .before .before .required-slots .ensures) (c .before .if2 .left) (omega arith), omega arith)
+    let b = c .before .before .before .before in (
+      raised-more _ _ _ (b .loop .inv .0) (b .loop .inv .1) _ _ _ (ap (λ (x : ℕ). 4 * x) (c .before .before .before .base-two-loglog-ceiling .ensures))
+          (b .before .power-of-two .ensures) (c .before .before .required-slots .ensures) (c .before .if2 .left) (omega arith),
+      omega arith,
+    )
 
 pub funnel-minimum-slots-spec : {M : Type 1} → statement M
 funnel-minimum-slots-spec =

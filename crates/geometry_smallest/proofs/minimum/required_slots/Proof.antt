@@ -26,10 +26,12 @@ returns : tie.Need-returns
 returns c = let s = rest-small (4 * c .before .args .g) (c .before .args .power) (omega arith) in required-none _ _ (omega arith) _ refl (omega arith) (c .if1 .taken)
 
 mul-result : tie.Need-mul-result
-mul-result c = let s = rest-small (4 * c .before .args .g) (c .before .args .power) (omega arith) in omega (arith, required-fits (4 * c .before .args .g) (c .before .args .power) (omega arith) _ refl (omega arith) (c .if1 .left))
+mul-result c = let s = rest-small (4 * c .before .args .g) (c .before .args .power) (omega arith) in omega
+    (arith, required-fits (4 * c .before .args .g) (c .before .args .power) (omega arith) _ refl (omega arith) (c .if1 .left))
 
 add-result : tie.Need-add-result
-add-result c = let s = rest-small (4 * c .before .args .g) (c .before .args .power) (omega arith) in omega (arith, required-fits (4 * c .before .args .g) (c .before .args .power) (omega arith) _ refl (omega arith) (c .if1 .left))
+add-result c = let s = rest-small (4 * c .before .args .g) (c .before .args .power) (omega arith) in omega
+    (arith, required-fits (4 * c .before .args .g) (c .before .args .power) (omega arith) _ refl (omega arith) (c .if1 .left))
 
 returns-2 : tie.Need-returns-2
 returns-2 c = let s = rest-small (4 * c .before .args .g) (c .before .args .power) (omega arith) in required-some _ _ (omega arith) _ refl (omega arith) (c .before .pre .2)

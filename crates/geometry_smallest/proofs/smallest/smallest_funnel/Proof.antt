@@ -38,13 +38,15 @@ returns-3 : tie.Need-returns-3
 returns-3 c =
     let b = c .before .before .before in
     let s = b .before .before .before in
-    answer-found _ _ _ _ _ (sym (s .before .before .before .smallest-gate .ensures) ∙ s .before .enum-told .given .1) _ (s .smallest-slots .ensures) (b .before .before .if1 .left) _ _ (b .funnel-plan .ensures) _ (c .before .planned .given .1)
+    answer-found _ _ _ _ _ (sym (s .before .before .before .smallest-gate .ensures) ∙ s .before .enum-told .given .1) _ (s .smallest-slots .ensures)
+    (b .before .before .if1 .left) _ _ (b .funnel-plan .ensures) _ (c .before .planned .given .1)
 
 returns-4 : tie.Need-returns-4
 returns-4 c =
     let b = c .before .before .before in
     let s = b .before .before .before in
-    absurd (answer-never _ _ _ _ _ (sym (s .before .before .before .smallest-gate .ensures) ∙ s .before .enum-told .given .1) _ (s .smallest-slots .ensures) (b .before .before .if1 .left) _ _ (b .funnel-plan .ensures) _ (c .before .planned2 .given .1))
+    absurd (answer-never _ _ _ _ _ (sym (s .before .before .before .smallest-gate .ensures) ∙ s .before .enum-told .given .1) _ (s .smallest-slots .ensures)
+    (b .before .before .if1 .left) _ _ (b .funnel-plan .ensures) _ (c .before .planned2 .given .1))
 
 pub smallest-funnel-spec : {M : Type 1} → statement M
 smallest-funnel-spec =

@@ -1,0 +1,2 @@
+pub mod Rent
+pub mod RentLaws
