@@ -8,7 +8,6 @@ use geometry::funnel::FunnelPlanned;
 use geometry_funnel::plan::funnel_plan;
 use geometry_funnel::plan::is_funnel_plan;
 use probe::counter::Domain;
-use probe::counter::funnel_base;
 use probe::range::Drawn;
 use probe::range::funnel_draw;
 use probe::word::FunnelKey;
@@ -97,7 +96,8 @@ fn bucket(key: FunnelKey, level: u64, count: u64, cap: u64) -> u64 {
     }
     match funnel_draw(
         key,
-        funnel_base(Domain::Ordinary { level }, LogicalProbe(0)),
+        Domain::Ordinary { level },
+        LogicalProbe(0),
         count,
         cap,
     ) {

@@ -23,7 +23,8 @@ use Rattle.elastic_probe.specs.Length.{lengthIn, bitsOf}
 use Rattle.probe.specs.Mix.{xorBits, mix64Of}
 use Rattle.elastic_probe.specs.Phi.{pairs, phi, parse, start, coordsOf}
 use Rattle.elastic_probe.specs.Position.{positionOf, positionReport, boundedOf, boundedReport, coordinatesOf, coordinatesReport}
-use Rattle.probe.specs.Range.{wordsAt, reduceOf, drawOf, elasticReduceOf, reducedReport}
+use Rattle.refusal.specs.declared.Draw.the-variants as draw
+use Rattle.probe.specs.Range.{wordsAt, reduceOf, drawOf, keyedDrawOf, elasticReduceOf, reducedReport}
 use Rattle.probe.specs.Word.{elasticKeyOf, wordOf}
 use Rattle.probe.specs.ReportLaws.{elastic-reduce-report}
 use Rattle.elastic.specs.declared.state.Limits.{Limits}
@@ -143,7 +144,7 @@ all-free e c = let m : min 0 e ≡ 0 = omega arith in rw m (omega arith)
 
 pub cases : (letter : Letter) → Says letter
 unfolding positionOf boundedOf coordinatesOf phi pairs coordsOf start parse bitsOf lengthIn elasticPackedOf budgetOf probesOf ceilLog2 firstFrom loglog
-    elasticPlanOf layBy plannedReport lengthsOf split levelLength padded total readingOf drawOf reduceOf wordsAt wordOf elasticKeyOf
+    elasticPlanOf layBy plannedReport lengthsOf split levelLength padded total readingOf keyedDrawOf drawOf reduceOf wordsAt wordOf elasticKeyOf
     mix64Of xorBits insertReport refusalReport queryReport
 cases A = (refl, refl, refl)
 cases B = (refl, refl, refl)
@@ -156,7 +157,7 @@ cases D = λ seed identity level probe u cap some. (
 cases E = (refl, refl)
 cases F = ((λ e c some. rw (ne-eqb c 0 some, all-free e c)), refl)
 cases G = ((λ e lengths quotas some. rw (config-pass 2 e gated.Passed (omega arith) some (omega arith)) (refl, refl)), refl)
-cases H = λ e limits some fit one. rw (first-refused e 0 limits some fit 0x61C8864680B583EB (record { words = 1 }) (rw one))
+cases H = λ e limits some fit one. rw (first-refused e 0 limits some fit 0x61C8864680B583EB (record { words = 1; draw = draw.Elastic 0; probe = record { 0 = 0 } }) (rw one))
 cases I = λ e seed limits identity some fit far.
     let r = two-reading (elasticKeyOf seed identity) (limits .«range_word_cap») (limits-facts e limits fit .words-some) in
     let insert = first-insert e seed limits some fit identity (r .0) (r .1) (r .2) far in

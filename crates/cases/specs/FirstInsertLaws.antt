@@ -18,7 +18,7 @@ use Rattle.geometry.specs.ConfigLaws.{config-pass}
 use Rattle.geometry.specs.Elastic.{levelLength, split, levelsOf, lengthsOf, planOf, laterQuotas, uncutQuotas, cut, quotasOf, total, batchFrom, batchOf, isPlanOf}
 use Rattle.probe.specs.Word.{elasticKeyOf, wordOf}
 use Rattle.probe.specs.WordLaws.{word-below}
-use Rattle.probe.specs.Range.{wordsAt, reduceOf, drawOf}
+use Rattle.probe.specs.Range.{wordsAt, reduceOf, drawOf, keyedDrawOf}
 use Rattle.elastic_probe.specs.Length.{lengthIn, bitsOf}
 use Rattle.elastic_probe.specs.Phi.{pairs, phi}
 use Rattle.elastic.specs.declared.state.Limits.{Limits}
@@ -59,7 +59,7 @@ module _ (n e seed : ℕ) (limits : Limits) (least : 2 ≤ n) (most : n ≤ 4294
 
 -- of two values no word is rejected
 pub two-reading : (key words : ℕ) → 0 < words → (slot : ℕ) × (slot < 2) × (readingOf 2 key words 0 0 ≡ reading.Slot slot 1)
-unfolding readingOf lengthsOf split levelLength ceilLog2 firstFrom total drawOf wordsAt reduceOf
+unfolding readingOf lengthsOf split levelLength ceilLog2 firstFrom total keyedDrawOf drawOf wordsAt reduceOf
 two-reading key zero h = absurd (omega arith)
 two-reading key (suc k) h = (
   wordOf key key 0 * 2 / 2 ^ 64,

@@ -24,10 +24,9 @@ use Rattle.geometry.specs.FunnelExist.{planWith, plan-is}
 use Rattle.probe.specs.declared.counter.Domain.{Domain}
 use Rattle.probe.specs.declared.counter.Domain.the-variants as domain
 use Rattle.probe.specs.declared.range.Drawn.the-variants.{Index}
-use Rattle.probe.specs.Word.{wordOf}
-use Rattle.probe.specs.WordLaws.{word-below}
-use Rattle.probe.specs.Range.{drawOf, funnelDrawOf}
-use Rattle.probe.specs.RangeLaws.{draw-first}
+use Rattle.probe.specs.Range.{funnelDrawOf}
+use Rattle.probe.specs.RangeLaws.{domain-drawn}
+use Rattle.probe.specs.ShiftLaws.{draw-one}
 use Rattle.funnel.specs.declared.table.Search.the-variants as search
 use Rattle.funnel.specs.Path.{Path, run, join, levelStart, bucketFrom, levelsFrom, primaryFrom, fallbackOf, primaryStart, fallbackStart, pathOf}
 use Rattle.funnel.specs.Every.{Every}
@@ -110,14 +109,9 @@ level-start level h = rw (take-append-le {A = ℕ} level (replicate 22 1) (repli
 -- ---- draws
 
 -- of one value no word is rejected, and the index is 0
-draw-one : (inner outer base cap : ℕ) → 0 < cap → drawOf inner outer base 1 cap ≡ Index 0 1
-draw-one inner outer base cap h =
-    let w = wordOf inner outer base in
-    sym (draw-first inner outer base 1 cap w (w * 1 % 2 ^ 64) true (λ z. omega arith) refl refl (sym (le-leb (2 ^ 64 % 1) (w * 1 % 2 ^ 64) (omega arith))) 0 refl (omega (arith, word-below inner outer base)))
-
 funnel-one : (seed identity : ℕ) (d : Domain) (probe cap : ℕ) → 0 < cap → funnelDrawOf seed identity d probe 1 cap ≡ Index 0 1
 unfolding funnelDrawOf
-funnel-one seed identity d probe cap h = draw-one _ _ _ cap h
+funnel-one seed identity d probe cap h = domain-drawn _ _ d probe 1 cap 0 1 (draw-one _ _ _ cap h)
 
 -- ---- the ordinary places
 

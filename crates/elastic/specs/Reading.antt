@@ -7,8 +7,7 @@ use lib.Dec.{eqb}
 use lib.ListN.{length, getD}
 use Rattle.words.specs.Pick.{pick}
 use Rattle.geometry.specs.Elastic.{levelsOf, lengthAt, offsetAt}
-use Rattle.probe.specs.Counter.{elasticCounterOf}
-use Rattle.probe.specs.Range.{drawOf}
+use Rattle.probe.specs.Range.{keyedDrawOf}
 use Rattle.probe.specs.declared.range.Drawn.{Drawn}
 use Rattle.probe.specs.declared.range.Drawn.the-variants as drawn
 use Rattle.elastic.specs.declared.route.Reading.{Reading}
@@ -26,7 +25,7 @@ readingBy offset (drawn.Refused refusal) = reading.Refused refusal
 -- the slot that a probe of a level reads for the identity of a key, and the words that it took
 unfoldable pub readingOf : (n key cap level probe : ℕ) → Reading
 readingOf n key cap level probe =
-    readingBy (offsetAt n level) (drawOf key key (elasticCounterOf level probe 0) (lengthAt n level) cap)
+    readingBy (offsetAt n level) (keyedDrawOf key level probe (lengthAt n level) cap)
 
 -- "Flag 0 is vacant, any other occupied"
 abbrev pub vacantAt : List ℕ → ℕ → Bool

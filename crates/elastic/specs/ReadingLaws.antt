@@ -13,9 +13,8 @@ use Rattle.words.specs.Pick.{pick}
 use Rattle.geometry.specs.Config.{Configured}
 use Rattle.geometry.specs.Elastic.{levelsOf, lengthAt, offsetAt, levelLength}
 use Rattle.geometry.specs.ElasticLaws.{levels-facts, offset-at, length-at, length-pos, level-within}
-use Rattle.probe.specs.Counter.{elasticCounterOf}
-use Rattle.probe.specs.Range.{drawOf}
-use Rattle.probe.specs.RangeLaws.{draw-index, Drew}
+use Rattle.probe.specs.Range.{keyedDrawOf}
+use Rattle.probe.specs.RangeLaws.{keyed-draw-index, Drew}
 use Rattle.probe.specs.declared.range.Drawn.{Drawn}
 use Rattle.probe.specs.declared.range.Drawn.the-variants as drawn
 use Rattle.elastic.specs.declared.route.Reading.{Reading}
@@ -56,7 +55,7 @@ module _ {n last cap level : ℕ} (p : Probed n last cap level) where
 -- ---- readings
 
 module _ {n last cap level : ℕ} (p : Probed n last cap level) (key probe o l : ℕ) (eo : o ≡ offsetAt n level) (el : l ≡ lengthAt n level) (d : Drawn)
-    (ed : d ≡ drawOf key key (elasticCounterOf level probe 0) l cap) where
+    (ed : d ≡ keyedDrawOf key level probe l cap) where
   pub reading-index : (i w : ℕ) → d ≡ drawn.Index i w → reading.Slot (o + i) w ≡ readingOf n key cap level probe
   unfolding readingOf
   reading-index i w h = sym (rw (← el, ← ed, h, ← eo))
@@ -67,18 +66,18 @@ module _ {n last cap level : ℕ} (p : Probed n last cap level) (key probe o l :
 
   -- the index lies within the level
   pub index-drew : (i w : ℕ) → d ≡ drawn.Index i w → Drew l cap i w
-  index-drew i w h = draw-index key key (elasticCounterOf level probe 0) l cap i w (omega (arith, el, probed-some p)) (sym ed ∙ h)
+  index-drew i w h = keyed-draw-index key level probe l cap i w (omega (arith, el, probed-some p)) (sym ed ∙ h)
 
 pub reading-read : {n last cap level : ℕ} → Probed n last cap level → (key probe s w : ℕ) → readingOf n key cap level probe ≡ reading.Slot s w → Read n cap level s w
 unfolding readingOf
-reading-read {n} {last} {cap} {level} p key probe s w h = go (drawOf key key (elasticCounterOf level probe 0) (lengthAt n level) cap) refl h
+reading-read {n} {last} {cap} {level} p key probe s w h = go (keyedDrawOf key level probe (lengthAt n level) cap) refl h
   where
-    go : (d : Drawn) → d ≡ drawOf key key (elasticCounterOf level probe 0) (lengthAt n level) cap → readingBy (offsetAt n level) d ≡ reading.Slot s w → Read n cap level s w
+    go : (d : Drawn) → d ≡ keyedDrawOf key level probe (lengthAt n level) cap → readingBy (offsetAt n level) d ≡ reading.Slot s w → Read n cap level s w
     go (drawn.Refused r) e q = let z : _≡_ {A = ℕ} 0 1 = cc in absurd (omega arith)
     go (drawn.Index i u) e q =
         let a : offsetAt n level + i ≡ s = cc in
         let b : u ≡ w = cc in
-        let f : Drew (lengthAt n level) cap i u = draw-index key key (elasticCounterOf level probe 0) (lengthAt n level) cap i u (probed-some p) (sym e) in
+        let f : Drew (lengthAt n level) cap i u = keyed-draw-index key level probe (lengthAt n level) cap i u (probed-some p) (sym e) in
         record { from = omega arith; to = omega (arith, f .below); below = omega (arith, f .below, probed-within p); some = omega (arith, f .some); most = omega (arith, f .most) }
 
 -- ---- searches

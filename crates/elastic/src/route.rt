@@ -6,7 +6,6 @@ ghost use lib.ListN.{length, getD};
 ghost use Rattle.elastic.specs.Reading.{readingOf, seekOf, holdsAt, firstOf, Without, Probed, Seekable};
 use geometry::elastic::level_length;
 use geometry::elastic::level_offset;
-use probe::counter::elastic_base;
 use probe::range::Drawn;
 use probe::range::elastic_draw;
 use refusal::RangeRefusal;
@@ -38,7 +37,7 @@ pub fn route(key: u64, n: u64, last: u64, cap: u64, level: u64, probe: LogicalPr
 {
     let offset = level_offset(n, level);
     let length = level_length(n, last, level);
-    match elastic_draw(key, elastic_base(level, probe), length, cap) {
+    match elastic_draw(key, level, probe, length, cap) {
         Drawn::Index { index, words } => {
             return Reading::Slot {
                 slot: offset + index,

@@ -12,7 +12,7 @@ use Rattle.geometry.specs.LevelLaws.{start-next}
 use Rattle.geometry.specs.declared.funnel.FunnelPlan.{FunnelPlan}
 use Rattle.funnel.specs.declared.table.FunnelTable.{FunnelTable}
 use Rattle.funnel.specs.Path.{levelStart, primaryStart, fallbackStart}
-use Rattle.funnel.specs.Valid.{Valid, Drawable}
+use Rattle.funnel.specs.Valid.{Valid}
 
 -- a part of w slots lies within a row of them
 pub part-room : (index count w : ℕ) → index < count → index * w + w ≤ count * w
@@ -60,7 +60,3 @@ module _ {n e : ℕ} {plan : FunnelPlan} {counts : List ℕ} (is : IsPlan n e pl
 pub level-none : (plan : FunnelPlan) (counts : List ℕ) → 0 ≡ levelStart plan counts 0
 unfolding total
 level-none plan counts = sym (zero-mul (plan .beta))
-
--- the levels of a valid table can be drawn from
-pub valid-drawable : {table : FunnelTable} {counts words flags : List ℕ} → Valid table counts words flags → Drawable (table .plan .alpha) (table .«word_cap») counts
-valid-drawable v = let f = plan-facts (v .planned) in record { few = f .alpha-most; cap-most = v .cap-most; some = count-some (v .planned) }

@@ -13,9 +13,8 @@ use Rattle.probe.specs.declared.counter.Domain.the-variants as domain
 use Rattle.probe.specs.declared.range.Drawn.{Drawn}
 use Rattle.probe.specs.declared.range.Drawn.the-variants as drawn
 use Rattle.probe.specs.declared.word.FunnelKey.{FunnelKey}
-use Rattle.probe.specs.Counter.{funnelCounterOf}
-use Rattle.probe.specs.Range.{drawOf, funnelDrawOf}
-use Rattle.probe.specs.RangeLaws.{funnel-core, draw-index}
+use Rattle.probe.specs.Range.{domainDrawOf, funnelDrawOf}
+use Rattle.probe.specs.RangeLaws.{funnel-core, domain-draw-index}
 use Rattle.funnel.specs.declared.table.Search.{Search}
 use Rattle.funnel.specs.declared.table.Search.the-variants.{Hit, Vacant, Full, Range}
 use Rattle.funnel.specs.Path.{Path, slotOf, run, stopped, join, sampled, bucketFrom, levelStart, levelsFrom, primaryFrom, pairsFrom, fallbackOf, pathOf, primaryStart, fallbackStart}
@@ -74,13 +73,14 @@ module _ {words flags : List ℕ} {identity level bucket from w k i : ℕ} (l : 
 
 -- the core drew by an identity's key what the definition draws
 pub drew : {seed identity : ℕ} {key : FunnelKey} → Keyed seed identity key → (d : Domain) (probe u cap : ℕ) (r x : Drawn)
-    → r ≡ drawOf (key .inner) (key .outer) (funnelCounterOf d probe 0) u cap → r ≡ x → funnelDrawOf seed identity d probe u cap ≡ x
+    → r ≡ domainDrawOf (key .inner) (key .outer) d probe u cap → r ≡ x → funnelDrawOf seed identity d probe u cap ≡ x
 drew {seed} {identity} {key} k d probe u cap r x e h =
-    sym (funnel-core seed identity d probe u cap (key .inner) (key .outer) (funnelCounterOf d probe 0) (k .is-inner) (k .is-outer) refl) ∙ sym e ∙ h
+    sym (funnel-core seed identity d probe u cap (key .inner) (key .outer) (k .is-inner) (k .is-outer)) ∙ sym e ∙ h
 
 -- and an index that it drew is below the number of values
-pub drew-below : (inner outer base u cap : ℕ) {i w : ℕ} {r : Drawn} → 0 < u → r ≡ drawOf inner outer base u cap → r ≡ drawn.Index i w → i < u
-drew-below inner outer base u cap {i} {w} pos e h = draw-index inner outer base u cap i w pos (sym e ∙ h) .below
+pub drew-below : (inner outer : ℕ) (d : Domain) (probe u cap : ℕ) {i w : ℕ} {r : Drawn} → 0 < u
+    → r ≡ domainDrawOf inner outer d probe u cap → r ≡ drawn.Index i w → i < u
+drew-below inner outer d probe u cap {i} {w} pos e h = domain-draw-index inner outer d probe u cap i w pos (sym e ∙ h) .below
 
 -- ---- the levels
 

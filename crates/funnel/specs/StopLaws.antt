@@ -6,6 +6,7 @@ use native.Mathlib.Nat.{zero-mul, mul-le-mul-left}
 use native.Mathlib.Omega.{arith}
 use lib.ListN.{getD}
 use Rattle.geometry.specs.FunnelLaws.{plan-facts}
+use Rattle.probe.specs.RangeLaws.{domain-drawn}
 use Rattle.probe.specs.declared.counter.Domain.the-variants as domain
 use Rattle.probe.specs.declared.range.Drawn.the-variants as drawn
 use Rattle.probe.specs.declared.word.FunnelKey.{FunnelKey}
@@ -127,7 +128,8 @@ module _ (table : FunnelTable) (counts words flags : List ℕ) (identity : ℕ) 
         ≡ resume words flags identity (levelsOn (table .plan) counts words flags (table .seed) (table .«word_cap») identity (level + 1)) found
     passed-found =
         levels-found (table .plan) counts words flags (table .seed) (table .«word_cap») identity (p .left) bucket 1 start found h (p .starts)
-        (drew keyed (domain.Ordinary level) 0 (getD counts level 0) (table .«word_cap») _ (drawn.Index bucket 1) refl (p .ahead .ahead h .first b (table .«word_cap») (valid .cap-least)))
+        (drew keyed (domain.Ordinary level) 0 (getD counts level 0) (table .«word_cap») _ (drawn.Index bucket 1) refl
+        (domain-drawn _ _ (domain.Ordinary level) 0 (getD counts level 0) (table .«word_cap») bucket 1 (p .ahead .ahead h .first b (table .«word_cap») (valid .cap-least))))
         refl
 
     -- where a bucket stops the search, it stops for good

@@ -3,13 +3,9 @@
 use mathlib.Core.Path.{_≡_}
 use mathlib.Core.List.{List}
 use Prim.Native.Nat.{ℕ, _+_, _≤_, _<_}
-use lib.ListN.{length, getD}
+use lib.ListN.{length}
 use Rattle.geometry.specs.Funnel.{IsPlan}
 use Rattle.probe.specs.Word.{funnelInOf, funnelOutOf}
-use Rattle.probe.specs.Counter.{funnelCounterOf}
-use Rattle.probe.specs.Range.{drawOf}
-use Rattle.probe.specs.declared.counter.Domain.the-variants as domain
-use Rattle.probe.specs.declared.range.Drawn.{Drawn}
 use Rattle.probe.specs.declared.word.FunnelKey.{FunnelKey}
 use Rattle.funnel.specs.declared.table.FunnelTable.{FunnelTable}
 
@@ -42,13 +38,3 @@ pub record SpecialRoom (table : FunnelTable) (start len words flags probes : ℕ
   pub loglog : table .plan .«loglog_ceiling» ≤ 5
   pub width : table .plan .«fallback_bucket_width» ≤ 10
   pub before : probes ≤ 4294967296
-
--- counts of which the first alpha can be drawn from
-pub record Drawable (alpha cap : ℕ) (counts : List ℕ) : Type 0 where
-  pub few : alpha ≤ 118
-  pub cap-most : cap ≤ 256
-  pub some : (k : ℕ) → k < alpha → 0 < getD counts k 0
-
--- what was drawn for a level, where there is such a level
-pub record DrawnAhead (key : FunnelKey) (counts : List ℕ) (alpha cap level : ℕ) (r : Drawn) : Type 0 where
-  pub ahead : level < alpha → r ≡ drawOf (key .inner) (key .outer) (funnelCounterOf (domain.Ordinary level) 0 0) (getD counts level 0) cap

@@ -2,11 +2,11 @@
 ghost use mathlib.Core.Path.{_≡_};
 ghost use Prim.Native.Nat.{_*_, _≤_, _<_, _^_};
 ghost use lib.ListN.{length};
-ghost use Rattle.probe.specs.Counter.{levelOf, funnelCounterOf};
-ghost use Rattle.probe.specs.Range.{drawOf};
+ghost use Rattle.probe.specs.Counter.{levelOf};
+ghost use Rattle.probe.specs.Range.{domainDrawOf};
 ghost use Rattle.funnel.specs.Path.{levelsFrom, primaryFrom, fallbackOf};
 ghost use Rattle.funnel.specs.Search.{searchOf};
-ghost use Rattle.funnel.specs.Valid.{Valid, Keyed, SpecialRoom, Drawable, DrawnAhead};
+ghost use Rattle.funnel.specs.Valid.{Valid, Keyed, SpecialRoom};
 ghost use Rattle.lent.specs.Lent.{wordsIn};
 use funnel::scan::read;
 use funnel::scan::scan;
@@ -14,11 +14,9 @@ use funnel::scan::scan_pairs;
 use funnel::table::FunnelTable;
 use funnel::table::Search;
 use probe::counter::Domain;
-use probe::counter::funnel_base;
 use probe::range::Drawn;
 use probe::range::funnel_draw;
 use probe::word::FunnelKey;
-use refusal::RangeRefusal;
 use words::place::GlobalSlot;
 use words::place::LogicalProbe;
 use words::place::Place;
@@ -42,15 +40,14 @@ pub fn search_levels(
     let mut level = 0;
     let mut start = 0;
     let mut probes = 0;
-    let mut drawn = draw_level(key, counts, alpha, 0, table.word_cap);
     while level < alpha {
-        match drawn {
+        let count = counts[level as usize];
+        let cap = table.word_cap;
+        match sample(key, Domain::Ordinary { level }, LogicalProbe(0), count, cap) {
             Drawn::Refused(refusal) => {
                 return Search::Range(refusal);
             }
             Drawn::Index { index, words: _ } => {
-                // The next level's bucket is drawn before this one is read, so that it is at hand when this one is full.
-                let ahead = draw_level(key, counts, alpha, level + 1, table.word_cap);
                 let from = start + index * beta;
                 let found = scan(
                     words,
@@ -68,25 +65,12 @@ pub fn search_levels(
                     return found;
                 };
                 probes = read;
-                drawn = ahead;
             }
         }
-        start += counts[level as usize] * beta;
+        start += count * beta;
         level += 1;
     }
     Search::Full { probes }
-}
-
-// The draw of a level's bucket, where there is such a level.
-pub fn draw_level(key: FunnelKey, counts: &[u64; 118], alpha: u64, level: u64, cap: u64) -> Drawn
-    requires { ⌜ Drawable alpha cap (now counts) ⌝ }
-    ensures { λ r. ⌜ DrawnAhead key (now (counts .entry)) alpha cap level r ⌝ }
-{
-    if alpha <= level {
-        return Drawn::Refused(RangeRefusal { words: 0 });
-    }
-    let count = counts[level as usize];
-    sample(key, Domain::Ordinary { level }, LogicalProbe(0), count, cap)
 }
 
 // "then g primary probes", among the primary slots from `start` on, with some probes made before
@@ -180,7 +164,7 @@ pub fn search_fallback(
 // An index below upper, by the key of an identity: the Rust's `sample`.
 pub fn sample(key: FunnelKey, domain: Domain, probe: LogicalProbe, upper: u64, cap: u64) -> Drawn
     requires { ⌜ (levelOf domain < 2 ^ 46) × (probe .0 < 256) × (0 < upper) × (cap ≤ 256) ⌝ }
-    ensures { λ r. ⌜ r ≡ drawOf (key .inner) (key .outer) (funnelCounterOf domain (probe .0) 0) upper cap ⌝ }
+    ensures { λ r. ⌜ r ≡ domainDrawOf (key .inner) (key .outer) domain (probe .0) upper cap ⌝ }
 {
-    funnel_draw(key, funnel_base(domain, probe), upper, cap)
+    funnel_draw(key, domain, probe, upper, cap)
 }

@@ -7,15 +7,19 @@ use native.Mathlib.Omega.{arith}
 use lib.Dec.{leb}
 use lib.ListN.{length, getD}
 use borrow.Author.Tests.{eq-eqb, ne-eqb, lt-ltb, le-ltb, le-leb, lt-leb}
+use Rattle.refusal.specs.declared.Draw.{Draw}
+use Rattle.refusal.specs.declared.Draw.the-variants as draw
 use Rattle.refusal.specs.declared.RangeRefusal.{RangeRefusal}
 use Rattle.words.specs.Pick.{pick}
 use Rattle.probe.specs.Counter.{elasticCounterOf, levelOf, funnelCounterOf}
 use Rattle.probe.specs.Word.{elasticKeyOf, funnelInOf, funnelOutOf, wordOf, elasticWordOf, funnelWordOf}
 use Rattle.probe.specs.WordLaws.{word-below}
-use Rattle.probe.specs.Range.{wordsAt, FirstIndex, allRejected, reduceOf, drawOf, elasticDrawOf, funnelDrawOf, reducedOf, elasticReduceOf, funnelReduceOf}
+use Rattle.probe.specs.Range.{wordsAt, FirstIndex, allRejected, reduceOf, drawOf, Names, drawnFor, keyedDrawOf, elasticDrawOf, originOf, domainDrawOf, funnelDrawOf, reducedOf, elasticReduceOf, funnelReduceOf}
 use Rattle.probe.specs.declared.counter.Domain.{Domain}
 use Rattle.probe.specs.declared.range.Drawn.{Drawn}
-use Rattle.probe.specs.declared.range.Drawn.the-variants.{Index, Refused}
+use Rattle.probe.specs.declared.range.Drawn.the-variants as drawn
+use Rattle.probe.specs.declared.range.Trial.{Trial}
+use Rattle.probe.specs.declared.range.Trial.the-variants.{Index, Rejected}
 use Rattle.probe.specs.declared.range.Reduced.{Reduced}
 use Rattle.probe.specs.declared.range.Reduced.the-variants as reduced
 
@@ -136,24 +140,24 @@ module _ (inner outer base u cap used : ℕ) (r : Drawing inner outer base u cap
 
 -- ---- bounds
 
--- a draw's index is below u, it took a word and no more than it may, and a refusal tells all it may
-unfoldable pub DrawnIn : (u cap : ℕ) → Drawn → Type 0
-DrawnIn u cap (Index i n) = (i < u) × (0 < n) × (n ≤ cap)
-DrawnIn u cap (Refused r) = r .words ≡ cap
+-- an index is below u, took a word and no more than it may; where all are rejected, these are as many as it may
+unfoldable pub TriedIn : (u cap : ℕ) → Trial → Type 0
+TriedIn u cap (Index i n) = (i < u) × (0 < n) × (n ≤ cap)
+TriedIn u cap (Rejected n) = n ≡ cap
 
-either : (u cap : ℕ) (t : Bool) (a b : Drawn) → DrawnIn u cap a → DrawnIn u cap b → DrawnIn u cap (pick t a b)
+either : (u cap : ℕ) (t : Bool) (a b : Trial) → TriedIn u cap a → TriedIn u cap b → TriedIn u cap (pick t a b)
 either u cap true a b ha hb = ha
 either u cap false a b ha hb = hb
 
-reduce-in : (inner outer base u cap n used : ℕ) → 0 < u → used + n ≡ cap → DrawnIn u cap (reduceOf (wordsAt inner outer base n) u used)
-unfolding reduceOf wordsAt DrawnIn
+reduce-in : (inner outer base u cap n used : ℕ) → 0 < u → used + n ≡ cap → TriedIn u cap (reduceOf (wordsAt inner outer base n) u used)
+unfolding reduceOf wordsAt TriedIn
 reduce-in inner outer base u cap zero used pos e = omega arith
 reduce-in inner outer base u cap (suc n) used pos e =
     either u cap (leb (2 ^ 64 % u) (wordOf inner outer base * u % 2 ^ 64)) _ _
     (high-below (wordOf inner outer base) u (word-below inner outer base) pos, omega arith, omega arith)
     (reduce-in inner outer (base + 1) u cap n (used + 1) pos (omega arith))
 
-pub draw-in : (inner outer base u cap : ℕ) → 0 < u → DrawnIn u cap (drawOf inner outer base u cap)
+draw-in : (inner outer base u cap : ℕ) → 0 < u → TriedIn u cap (drawOf inner outer base u cap)
 unfolding drawOf
 draw-in inner outer base u cap pos = reduce-in inner outer base u cap cap 0 pos (omega arith)
 
@@ -163,40 +167,91 @@ pub record Drew (u cap index words : ℕ) : Type 0 where
   pub some : 0 < words
   pub most : words ≤ cap
 
-pub in-index : (u cap i n : ℕ) (d : Drawn) → d ≡ Index i n → DrawnIn u cap d → Drew u cap i n
-unfolding DrawnIn
-in-index u cap i n d e h = let g = subst (DrawnIn u cap) e h in record { below = g .0; some = g .1; most = g .2 }
+-- the law that callers use: an index drawn is below u and took from 1 to cap words
+for-index : (d : Draw) (probe u cap : ℕ) (t : Trial) (i n : ℕ) → TriedIn u cap t → drawnFor d probe t ≡ drawn.Index i n → Drew u cap i n
+unfolding TriedIn
+for-index d probe u cap (Index j m) i n h e =
+    let a : j ≡ i = ap (λ x. indexOf x) e in
+    let b : m ≡ n = ap (λ x. wordsOf x) e in
+    record { below = omega (arith, h .0); some = omega (arith, h .1); most = omega (arith, h .2) }
+  where
+    indexOf : Drawn → ℕ
+    indexOf (drawn.Index k l) = k
+    indexOf (drawn.Refused r) = 0
 
-pub in-refused : (u cap : ℕ) (r : RangeRefusal) (d : Drawn) → d ≡ Refused r → DrawnIn u cap d → r .words ≡ cap
-unfolding DrawnIn
-in-refused u cap r d e h = subst (DrawnIn u cap) e h
+    wordsOf : Drawn → ℕ
+    wordsOf (drawn.Index k l) = l
+    wordsOf (drawn.Refused r) = 0
+for-index d probe u cap (Rejected m) i n h e = let z : _≡_ {A = ℕ} 0 1 = cc in absurd (omega arith)
 
--- the laws that callers use: an index drawn is below u and took from 1 to cap words, a refusal tells the cap
-pub draw-index : (inner outer base u cap i n : ℕ) → 0 < u → drawOf inner outer base u cap ≡ Index i n → Drew u cap i n
-draw-index inner outer base u cap i n pos e = in-index u cap i n _ e (draw-in inner outer base u cap pos)
+pub keyed-draw-index : (key level probe u cap i n : ℕ) → 0 < u → keyedDrawOf key level probe u cap ≡ drawn.Index i n → Drew u cap i n
+unfolding keyedDrawOf
+keyed-draw-index key level probe u cap i n pos e = for-index _ _ u cap _ i n (draw-in _ _ _ u cap pos) e
 
-pub draw-refused : (inner outer base u cap : ℕ) (r : RangeRefusal) → 0 < u → drawOf inner outer base u cap ≡ Refused r → r .words ≡ cap
-draw-refused inner outer base u cap r pos e = in-refused u cap r _ e (draw-in inner outer base u cap pos)
-
-pub elastic-draw-index : (seed identity level probe u cap i n : ℕ) → 0 < u → elasticDrawOf seed identity level probe u cap ≡ Index i n → Drew u cap i n
+pub elastic-draw-index : (seed identity level probe u cap i n : ℕ) → 0 < u → elasticDrawOf seed identity level probe u cap ≡ drawn.Index i n → Drew u cap i n
 unfolding elasticDrawOf
-elastic-draw-index seed identity level probe u cap i n pos e = draw-index _ _ _ u cap i n pos e
+elastic-draw-index seed identity level probe u cap i n pos e = keyed-draw-index _ level probe u cap i n pos e
 
-pub funnel-draw-index : (seed identity : ℕ) (domain : Domain) (probe u cap i n : ℕ) → 0 < u → funnelDrawOf seed identity domain probe u cap ≡ Index i n → Drew u cap i n
+pub domain-draw-index : (inner outer : ℕ) (domain : Domain) (probe u cap i n : ℕ) → 0 < u → domainDrawOf inner outer domain probe u cap ≡ drawn.Index i n → Drew u cap i n
+unfolding domainDrawOf
+domain-draw-index inner outer domain probe u cap i n pos e = for-index _ _ u cap _ i n (draw-in _ _ _ u cap pos) e
+
+pub funnel-draw-index : (seed identity : ℕ) (domain : Domain) (probe u cap i n : ℕ) → 0 < u → funnelDrawOf seed identity domain probe u cap ≡ drawn.Index i n → Drew u cap i n
 unfolding funnelDrawOf
-funnel-draw-index seed identity domain probe u cap i n pos e = draw-index _ _ _ u cap i n pos e
+funnel-draw-index seed identity domain probe u cap i n pos e = domain-draw-index _ _ domain probe u cap i n pos e
 
--- the core called with an identity's keys and a probe's first counter draws what the definition draws
-pub elastic-core : (seed identity level probe u cap key base : ℕ) → key ≡ elasticKeyOf seed identity → base ≡ elasticCounterOf level probe 0
-    → drawOf key key base u cap ≡ elasticDrawOf seed identity level probe u cap
+-- ---- "Say where the words ran out": a refused draw names itself, and all words that it may take
+
+for-refused : (d : Draw) (probe u cap : ℕ) (t : Trial) (r : RangeRefusal) → TriedIn u cap t → drawnFor d probe t ≡ drawn.Refused r → Names d probe cap r
+unfolding TriedIn
+for-refused d probe u cap (Index j m) r h e = let z : _≡_ {A = ℕ} 0 1 = cc in absurd (omega arith)
+for-refused d probe u cap (Rejected m) r h e =
+    let told = ap (λ x. refusalOf x) e in
+    record { all = sym (ap (λ x. x .words) told) ∙ h; for-draw = sym (ap (λ x. x .draw) told); at-probe = sym (ap (λ x. x .probe .0) told) }
+  where
+    refusalOf : Drawn → RangeRefusal
+    refusalOf (drawn.Index k l) = r
+    refusalOf (drawn.Refused x) = x
+
+pub elastic-draw-refused : (seed identity level probe u cap : ℕ) (r : RangeRefusal) → 0 < u → elasticDrawOf seed identity level probe u cap ≡ drawn.Refused r
+    → Names (draw.Elastic level) probe cap r
+unfolding elasticDrawOf keyedDrawOf
+elastic-draw-refused seed identity level probe u cap r pos e = for-refused _ _ u cap _ r (draw-in _ _ _ u cap pos) e
+
+pub funnel-draw-refused : (seed identity : ℕ) (domain : Domain) (probe u cap : ℕ) (r : RangeRefusal) → 0 < u
+    → funnelDrawOf seed identity domain probe u cap ≡ drawn.Refused r → Names (originOf domain) probe cap r
+unfolding funnelDrawOf domainDrawOf
+funnel-draw-refused seed identity domain probe u cap r pos e = for-refused _ _ u cap _ r (draw-in _ _ _ u cap pos) e
+
+-- ---- the core called with an identity's keys draws what the definition draws
+
+pub elastic-core : (seed identity level probe u cap key : ℕ) → key ≡ elasticKeyOf seed identity
+    → keyedDrawOf key level probe u cap ≡ elasticDrawOf seed identity level probe u cap
 unfolding elasticDrawOf
-elastic-core seed identity level probe u cap key base k b = rw (k, b)
+elastic-core seed identity level probe u cap key k = rw k
 
-pub funnel-core : (seed identity : ℕ) (domain : Domain) (probe u cap inner outer base : ℕ)
-    → inner ≡ funnelInOf seed identity → outer ≡ funnelOutOf seed identity → base ≡ funnelCounterOf domain probe 0
-    → drawOf inner outer base u cap ≡ funnelDrawOf seed identity domain probe u cap
+pub funnel-core : (seed identity : ℕ) (domain : Domain) (probe u cap inner outer : ℕ) → inner ≡ funnelInOf seed identity → outer ≡ funnelOutOf seed identity
+    → domainDrawOf inner outer domain probe u cap ≡ funnelDrawOf seed identity domain probe u cap
 unfolding funnelDrawOf
-funnel-core seed identity domain probe u cap inner outer base i o b = rw (i, o, b)
+funnel-core seed identity domain probe u cap inner outer i o = rw (i, o)
+
+-- an index that words gave is the index drawn
+pub domain-drawn : (inner outer : ℕ) (domain : Domain) (probe u cap i w : ℕ) → drawOf inner outer (funnelCounterOf domain probe 0) u cap ≡ Index i w
+    → domainDrawOf inner outer domain probe u cap ≡ drawn.Index i w
+unfolding domainDrawOf
+domain-drawn inner outer domain probe u cap i w e = ap (drawnFor (originOf domain) probe) e
+
+-- a draw by its words and the draw that they are for
+pub keyed-told : (key level probe u cap base : ℕ) (t : Trial) (d : Drawn) → base ≡ elasticCounterOf level probe 0 → t ≡ drawOf key key base u cap
+    → d ≡ drawnFor (draw.Elastic level) probe t → d ≡ keyedDrawOf key level probe u cap
+unfolding keyedDrawOf
+keyed-told key level probe u cap base t d b e f = f ∙ ap (drawnFor (draw.Elastic level) probe) (e ∙ ap (λ x. drawOf key key x u cap) b)
+
+pub domain-told : (inner outer : ℕ) (domain : Domain) (probe u cap base : ℕ) (t : Trial) (o : Draw) (d : Drawn) → base ≡ funnelCounterOf domain probe 0
+    → t ≡ drawOf inner outer base u cap → o ≡ originOf domain → d ≡ drawnFor o probe t → d ≡ domainDrawOf inner outer domain probe u cap
+unfolding domainDrawOf
+domain-told inner outer domain probe u cap base t o d b e g f =
+    f ∙ ap (λ x. drawnFor x probe t) g ∙ ap (drawnFor (originOf domain) probe) (e ∙ ap (λ x. drawOf inner outer x u cap) b)
 
 -- ---- the bare reductions, in turn
 
@@ -225,10 +280,9 @@ module _ (seed identity level probe u cap : ℕ) where
         elastic-drawn h = sym (rw (ne-eqb u 0 nu, lt-leb 32 level hl, lt-leb 8192 probe hp, le-ltb 8 cap h))
 
         -- by the core
-        pub elastic-answer : cap ≤ 8 → (key base : ℕ) (d : Drawn) (r : Reduced) → key ≡ elasticKeyOf seed identity → base ≡ elasticCounterOf level probe 0
-            → d ≡ drawOf key key base u cap → r ≡ reducedOf d → r ≡ elasticReduceOf seed identity level probe u cap
-        elastic-answer h key base d r k b e f =
-            f ∙ ap reducedOf (e ∙ elastic-core seed identity level probe u cap key base k b) ∙ elastic-drawn h
+        pub elastic-answer : cap ≤ 8 → (key : ℕ) (d : Drawn) (r : Reduced) → key ≡ elasticKeyOf seed identity
+            → d ≡ keyedDrawOf key level probe u cap → r ≡ reducedOf d → r ≡ elasticReduceOf seed identity level probe u cap
+        elastic-answer h key d r k e f = f ∙ ap reducedOf (e ∙ elastic-core seed identity level probe u cap key k) ∙ elastic-drawn h
 
 module _ (seed identity : ℕ) (domain : Domain) (probe u cap : ℕ) where
   pub funnel-upper : u ≡ 0 → reduced.Upper ≡ funnelReduceOf seed identity domain probe u cap
@@ -255,8 +309,6 @@ module _ (seed identity : ℕ) (domain : Domain) (probe u cap : ℕ) where
         funnel-drawn h = sym (rw (ne-eqb u 0 nu, lt-leb (2 ^ 46) (levelOf domain) hl, lt-leb 256 probe hp, le-ltb 256 cap h))
 
         -- by the core
-        pub funnel-answer : cap ≤ 256 → (inner outer base : ℕ) (d : Drawn) (r : Reduced)
-            → inner ≡ funnelInOf seed identity → outer ≡ funnelOutOf seed identity → base ≡ funnelCounterOf domain probe 0
-            → d ≡ drawOf inner outer base u cap → r ≡ reducedOf d → r ≡ funnelReduceOf seed identity domain probe u cap
-        funnel-answer h inner outer base d r i o b e f =
-            f ∙ ap reducedOf (e ∙ funnel-core seed identity domain probe u cap inner outer base i o b) ∙ funnel-drawn h
+        pub funnel-answer : cap ≤ 256 → (inner outer : ℕ) (d : Drawn) (r : Reduced) → inner ≡ funnelInOf seed identity → outer ≡ funnelOutOf seed identity
+            → d ≡ domainDrawOf inner outer domain probe u cap → r ≡ reducedOf d → r ≡ funnelReduceOf seed identity domain probe u cap
+        funnel-answer h inner outer d r i o e f = f ∙ ap reducedOf (e ∙ funnel-core seed identity domain probe u cap inner outer i o) ∙ funnel-drawn h

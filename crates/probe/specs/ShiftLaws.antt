@@ -12,8 +12,8 @@ use borrow.Author.Tests.{eqb-true, le-leb}
 use Rattle.probe.specs.Word.{wordOf}
 use Rattle.probe.specs.WordLaws.{word-below}
 use Rattle.probe.specs.Range.{wordsAt, reduceOf, drawOf}
-use Rattle.probe.specs.declared.range.Drawn.{Drawn}
-use Rattle.probe.specs.declared.range.Drawn.the-variants.{Index}
+use Rattle.probe.specs.declared.range.Trial.{Trial}
+use Rattle.probe.specs.declared.range.Trial.the-variants.{Index}
 
 -- ---- 2^k values
 

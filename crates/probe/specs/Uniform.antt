@@ -10,7 +10,7 @@ use lib.Dec.{leb}
 use borrow.Author.Tests.{le-leb, leb-true}
 use Rattle.words.specs.Pick.{pick}
 use Rattle.probe.specs.Range.{reduceOf, allRejected}
-use Rattle.probe.specs.declared.range.Drawn.the-variants.{Index}
+use Rattle.probe.specs.declared.range.Trial.the-variants.{Index}
 
 -- a word that is accepted and gives the index i
 pub record Gives (u i w : ℕ) : Type 0 where

@@ -2,7 +2,8 @@
 use mathlib.Core.Path.{_≡_, refl}
 use Rattle.probe.specs.Mix.{xorBits, xorShift, mix64Of}
 use Rattle.probe.specs.Word.{elasticKeyOf, funnelInOf, funnelOutOf, wordOf, elasticWordOf, funnelWordOf}
-use Rattle.probe.specs.Range.{wordsAt, reduceOf, drawOf, elasticDrawOf, funnelDrawOf, elasticReduceOf, funnelReduceOf}
+use Rattle.probe.specs.Range.{wordsAt, reduceOf, drawOf, keyedDrawOf, elasticDrawOf, domainDrawOf, funnelDrawOf, elasticReduceOf, funnelReduceOf}
+use Rattle.refusal.specs.declared.Draw.the-variants as draw
 use Rattle.probe.specs.declared.counter.Domain.the-variants as domain
 use Rattle.probe.specs.declared.range.Reduced.the-variants as reduced
 
@@ -34,13 +35,13 @@ special-word = refl
 
 -- reductions: by the first word, by the third, and by none of one
 pub reduced-first : funnelReduceOf 0 7 domain.Primary 3 6 8 ≡ reduced.Index 3 1
-unfolding xorBits xorShift mix64Of funnelInOf funnelOutOf wordOf wordsAt reduceOf drawOf funnelDrawOf funnelReduceOf
+unfolding xorBits xorShift mix64Of funnelInOf funnelOutOf wordOf wordsAt reduceOf drawOf domainDrawOf funnelDrawOf funnelReduceOf
 reduced-first = refl
 
 pub reduced-third : elasticReduceOf 1 0 2 3 9223372036854775809 8 ≡ reduced.Index 5300231492657067200 3
-unfolding xorBits xorShift mix64Of elasticKeyOf wordOf wordsAt reduceOf drawOf elasticDrawOf elasticReduceOf
+unfolding xorBits xorShift mix64Of elasticKeyOf wordOf wordsAt reduceOf drawOf keyedDrawOf elasticDrawOf elasticReduceOf
 reduced-third = refl
 
-pub reduced-none : elasticReduceOf 0 0x61C8864680B583EB 0 0 3 1 ≡ reduced.Range (record { words = 1 })
-unfolding xorBits xorShift mix64Of elasticKeyOf wordOf wordsAt reduceOf drawOf elasticDrawOf elasticReduceOf
+pub reduced-none : elasticReduceOf 0 0x61C8864680B583EB 0 0 3 1 ≡ reduced.Range (record { words = 1; draw = draw.Elastic 0; probe = record { 0 = 0 } })
+unfolding xorBits xorShift mix64Of elasticKeyOf wordOf wordsAt reduceOf drawOf keyedDrawOf elasticDrawOf elasticReduceOf
 reduced-none = refl

@@ -3,7 +3,8 @@ ghost use mathlib.Core.Path.{_≡_};
 ghost use Prim.Native.Nat.{_+_, _-_, _*_, _/_, _%_, _^_, _<_, _≤_};
 ghost use lib.Count.{trailingZeros};
 ghost use lib.Dec.{eqb, leb};
-ghost use Rattle.probe.specs.Range.{drawOf, FirstIndex, reducedOf, elasticReduceOf, funnelReduceOf};
+ghost use Rattle.probe.specs.Counter.{levelOf};
+ghost use Rattle.probe.specs.Range.{drawOf, FirstIndex, originOf, drawnFor, keyedDrawOf, domainDrawOf, reducedOf, elasticReduceOf, funnelReduceOf};
 use crate::counter::Domain;
 use crate::counter::ELASTIC_LEVELS;
 use crate::counter::ELASTIC_PROBES;
@@ -17,13 +18,20 @@ use crate::word::FunnelKey;
 use crate::word::elastic_key;
 use crate::word::funnel_key;
 use crate::word::keyed_word;
+use refusal::Draw;
 use refusal::RangeRefusal;
 use words::place::LogicalProbe;
 use words::power::two64_mod;
 use words::product::multiply;
 use words::product::multiply_high;
 
-// What a reduction gives where its range and counters are right: an index and the words it took, or that all were rejected.
+// What words gave: an index and how many it took, or that so many were rejected and no more are allowed.
+pub enum Trial {
+    Index { index: u64, words: u64 },
+    Rejected { words: u64 },
+}
+
+// What a reduction gives where its range and counters are right: an index and the words it took, or that all were rejected, and where.
 pub enum Drawn {
     Index { index: u64, words: u64 },
     Refused(RangeRefusal),
@@ -62,7 +70,8 @@ pub fn elastic_reduce(
     }
     answer(elastic_draw(
         elastic_key(seed, identity),
-        elastic_base(level, probe),
+        level,
+        probe,
         upper,
         cap,
     ))
@@ -92,7 +101,11 @@ pub fn funnel_reduce(
         return Reduced::Counter;
     }
     let key = funnel_key(seed, identity);
-    answer(draw(key.inner, key.outer, funnel_base(domain, probe), upper, cap))
+    answer(told(
+        draw(key.inner, key.outer, funnel_base(domain, probe), upper, cap),
+        origin(domain),
+        probe,
+    ))
 }
 
 // A draw's answer as the bare reduction gives it.
@@ -105,21 +118,57 @@ fn answer(drawn: Drawn) -> Reduced
     }
 }
 
-// The core for the elastic table: key is the identity's, base a counter with retry 0.
-pub fn elastic_draw(key: u64, base: u64, upper: u64, cap: u64) -> Drawn
-    requires { ⌜ (0 < upper) × (base + cap ≤ 2 ^ 64) ⌝ }
-    ensures { λ r. ⌜ r ≡ drawOf key key base upper cap ⌝ }
+// The core for the elastic table, by the identity's key.
+pub fn elastic_draw(key: u64, level: u64, probe: LogicalProbe, upper: u64, cap: u64) -> Drawn
+    requires { ⌜ (0 < upper) × (level < 32) × (probe .0 < 8192) × (cap ≤ 8) ⌝ }
+    ensures { λ r. ⌜ r ≡ keyedDrawOf key level (probe .0) upper cap ⌝ }
 {
-    draw(key, key, base, upper, cap)
+    told(
+        draw(key, key, elastic_base(level, probe), upper, cap),
+        Draw::Elastic { level },
+        probe,
+    )
 }
 
-// The core for the funnel table: key is the identity's, base a counter with retry 0. Its lengths are seldom powers of two, so it keeps the
-// product and asks nothing of the length.
-pub fn funnel_draw(key: FunnelKey, base: u64, upper: u64, cap: u64) -> Drawn
-    requires { ⌜ (0 < upper) × (base + cap ≤ 2 ^ 64) ⌝ }
-    ensures { λ r. ⌜ r ≡ drawOf (key .inner) (key .outer) base upper cap ⌝ }
+// The core for the funnel table, by the identity's key. Its lengths are seldom powers of two, so it keeps the product and asks nothing of
+// the length.
+pub fn funnel_draw(
+    key: FunnelKey,
+    domain: Domain,
+    probe: LogicalProbe,
+    upper: u64,
+    cap: u64,
+) -> Drawn
+    requires { ⌜ (0 < upper) × (levelOf domain < 2 ^ 46) × (probe .0 < 256) × (cap ≤ 256) ⌝ }
+    ensures { λ r. ⌜ r ≡ domainDrawOf (key .inner) (key .outer) domain (probe .0) upper cap ⌝ }
 {
-    draw_scaled(key.inner, key.outer, base, upper, cap)
+    told(
+        draw_scaled(key.inner, key.outer, funnel_base(domain, probe), upper, cap),
+        origin(domain),
+        probe,
+    )
+}
+
+// What words gave, with the draw that they were for where they were rejected: the one place where RANGE is made.
+fn told(trial: Trial, draw: Draw, probe: LogicalProbe) -> Drawn
+    ensures { λ r. ⌜ r ≡ drawnFor draw (probe .0) trial ⌝ }
+{
+    match trial {
+        Trial::Index { index, words } => Drawn::Index { index, words },
+        Trial::Rejected { words } => Drawn::Refused(RangeRefusal { words, draw, probe }),
+    }
+}
+
+// The draw of a domain.
+fn origin(domain: Domain) -> Draw
+    ensures { λ r. ⌜ r ≡ originOf domain ⌝ }
+{
+    match domain {
+        Domain::Ordinary { level } => Draw::Ordinary { level },
+        Domain::Primary => Draw::Primary,
+        Domain::FallbackA => Draw::FallbackA,
+        Domain::FallbackB => Draw::FallbackB,
+    }
 }
 
 // The index that the first word gives where it is accepted at once, else upper. For loops that leave the rest to `funnel_draw`.
@@ -136,17 +185,17 @@ pub fn first_index(key: FunnelKey, base: u64, upper: u64) -> u64
 
 // For a power of two no word is rejected, and the top bits of the first are the index: "count the trailing zeros of the length, shift, and
 // form no product".
-fn draw(inner: u64, outer: u64, base: u64, upper: u64, cap: u64) -> Drawn
+fn draw(inner: u64, outer: u64, base: u64, upper: u64, cap: u64) -> Trial
     requires { ⌜ (0 < upper) × (base + cap ≤ 2 ^ 64) ⌝ }
     ensures { λ r. ⌜ r ≡ drawOf inner outer base upper cap ⌝ }
 {
     if cap == 0 {
-        return Drawn::Refused(RangeRefusal { words: 0 });
+        return Trial::Rejected { words: 0 };
     }
     if is_power(upper) {
         let word = keyed_word(inner, outer, base);
         let index = top_bits(word, u64::trailing_zeros(upper) as u64);
-        return Drawn::Index { index, words: 1 };
+        return Trial::Index { index, words: 1 };
     }
     draw_scaled(inner, outer, base, upper, cap)
 }
@@ -168,7 +217,7 @@ fn top_bits(word: u64, bits: u64) -> u64
 }
 
 // Word after word, until one is accepted: the high half of its product with upper is the index.
-fn draw_scaled(inner: u64, outer: u64, base: u64, upper: u64, cap: u64) -> Drawn
+fn draw_scaled(inner: u64, outer: u64, base: u64, upper: u64, cap: u64) -> Trial
     requires { ⌜ (0 < upper) × (base + cap ≤ 2 ^ 64) ⌝ }
     ensures { λ r. ⌜ r ≡ drawOf inner outer base upper cap ⌝ }
 {
@@ -177,13 +226,13 @@ fn draw_scaled(inner: u64, outer: u64, base: u64, upper: u64, cap: u64) -> Drawn
         let word = keyed_word(inner, outer, base + used);
         used += 1;
         if accepts(multiply(word, upper), upper) {
-            return Drawn::Index {
+            return Trial::Index {
                 index: multiply_high(word, upper),
                 words: used,
             };
         }
     }
-    Drawn::Refused(RangeRefusal { words: used })
+    Trial::Rejected { words: used }
 }
 
 // Whether the low half of a word times u is at least 2^64 mod u. Most are at least u, and want no division.

@@ -5,7 +5,9 @@
 // table test first, and the refusal of a range reduction, which every caller hands on unchanged. A definition
 // `reportOf` beside each answer gives a case its number, by `numberOf`, and its values.
 ghost use mathlib.Core.Path.{_≡_};
+ghost use Rattle.refusal.specs.Draw.{domainOf, drawLevelOf};
 ghost use Rattle.refusal.specs.Table.{numberOf, nameOf};
+use words::place::LogicalProbe;
 
 // The rows of the table, in its order.
 pub enum Name {
@@ -49,9 +51,22 @@ pub enum Gate {
     State,
 }
 
-// All allowed words were rejected: how many these were. One struct, so that what it says can grow in one place.
+// What an index was drawn for: a bucket of an ordinary level, a primary slot, a fallback bucket A or B, or a slot of an elastic level. Only what
+// has a level carries one.
+pub enum Draw {
+    Ordinary { level: u64 },
+    Primary,
+    FallbackA,
+    FallbackB,
+    Elastic { level: u64 },
+}
+
+// All allowed words were rejected: how many these were, and which draw they were for. It is made in the reductions alone, and every caller
+// hands it on as it is.
 pub struct RangeRefusal {
     pub words: u64,
+    pub draw: Draw,
+    pub probe: LogicalProbe,
 }
 
 // The row of a refusal of the gate.
@@ -66,6 +81,32 @@ pub fn gate_name(gate: Gate) -> Name
         Gate::Layout => Name::Layout,
         Gate::Limits => Name::Limits,
         Gate::State => Name::State,
+    }
+}
+
+// The number of a draw's domain.
+pub fn domain_number(draw: Draw) -> u64
+    ensures { λ r. ⌜ r ≡ domainOf draw ⌝ }
+{
+    match draw {
+        Draw::Ordinary { level: _ } => 0,
+        Draw::Primary => 1,
+        Draw::FallbackA => 2,
+        Draw::FallbackB => 3,
+        Draw::Elastic { level: _ } => 4,
+    }
+}
+
+// The level of a draw, 0 where it has none.
+pub fn draw_level(draw: Draw) -> u64
+    ensures { λ r. ⌜ r ≡ drawLevelOf draw ⌝ }
+{
+    match draw {
+        Draw::Ordinary { level } => level,
+        Draw::Primary => 0,
+        Draw::FallbackA => 0,
+        Draw::FallbackB => 0,
+        Draw::Elastic { level } => level,
     }
 }
 

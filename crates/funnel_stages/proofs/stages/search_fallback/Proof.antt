@@ -27,40 +27,40 @@ enum-known-b c = search needs
 
 mul-at-a : tie.Need-mul-at-a
 mul-at-a c = let p = c .before .before .before .before .before .before .before .before .before .before .before .pre .0 in
-    let a = drew-below _ _ _ _ _ (p .fallback) (c .before .before .before .before .before .before .before .sample .ensures) (c .before .before .before .before .before .a .given .1) in
-    let b = drew-below _ _ _ _ _ (p .fallback) (c .before .before .before .sample2 .ensures) (c .before .b .given .1) in
+    let a = drew-below _ _ _ _ _ _ (p .fallback) (c .before .before .before .before .before .before .before .sample .ensures) (c .before .before .before .before .before .a .given .1) in
+    let b = drew-below _ _ _ _ _ _ (p .fallback) (c .before .before .before .sample2 .ensures) (c .before .b .given .1) in
     let u = part-room _ _ (c .before .before .before .before .before .before .before .before .before .before .before .args .table .plan .«fallback_bucket_width») a in
     let v = part-room _ _ (c .before .before .before .before .before .before .before .before .before .before .before .args .table .plan .«fallback_bucket_width») b in
     omega arith
 
 add-at-a : tie.Need-add-at-a
 add-at-a c = let p = c .before .before .before .before .before .before .before .before .before .before .before .pre .0 in
-    let a = drew-below _ _ _ _ _ (p .fallback) (c .before .before .before .before .before .before .before .sample .ensures) (c .before .before .before .before .before .a .given .1) in
-    let b = drew-below _ _ _ _ _ (p .fallback) (c .before .before .before .sample2 .ensures) (c .before .b .given .1) in
+    let a = drew-below _ _ _ _ _ _ (p .fallback) (c .before .before .before .before .before .before .before .sample .ensures) (c .before .before .before .before .before .a .given .1) in
+    let b = drew-below _ _ _ _ _ _ (p .fallback) (c .before .before .before .sample2 .ensures) (c .before .b .given .1) in
     let u = part-room _ _ (c .before .before .before .before .before .before .before .before .before .before .before .args .table .plan .«fallback_bucket_width») a in
     let v = part-room _ _ (c .before .before .before .before .before .before .before .before .before .before .before .args .table .plan .«fallback_bucket_width») b in
     omega arith
 
 mul-at-b : tie.Need-mul-at-b
 mul-at-b c = let p = c .before .before .before .before .before .before .before .before .before .before .before .pre .0 in
-    let a = drew-below _ _ _ _ _ (p .fallback) (c .before .before .before .before .before .before .before .sample .ensures) (c .before .before .before .before .before .a .given .1) in
-    let b = drew-below _ _ _ _ _ (p .fallback) (c .before .before .before .sample2 .ensures) (c .before .b .given .1) in
+    let a = drew-below _ _ _ _ _ _ (p .fallback) (c .before .before .before .before .before .before .before .sample .ensures) (c .before .before .before .before .before .a .given .1) in
+    let b = drew-below _ _ _ _ _ _ (p .fallback) (c .before .before .before .sample2 .ensures) (c .before .b .given .1) in
     let u = part-room _ _ (c .before .before .before .before .before .before .before .before .before .before .before .args .table .plan .«fallback_bucket_width») a in
     let v = part-room _ _ (c .before .before .before .before .before .before .before .before .before .before .before .args .table .plan .«fallback_bucket_width») b in
     omega arith
 
 add-at-b : tie.Need-add-at-b
 add-at-b c = let p = c .before .before .before .before .before .before .before .before .before .before .before .pre .0 in
-    let a = drew-below _ _ _ _ _ (p .fallback) (c .before .before .before .before .before .before .before .sample .ensures) (c .before .before .before .before .before .a .given .1) in
-    let b = drew-below _ _ _ _ _ (p .fallback) (c .before .before .before .sample2 .ensures) (c .before .b .given .1) in
+    let a = drew-below _ _ _ _ _ _ (p .fallback) (c .before .before .before .before .before .before .before .sample .ensures) (c .before .before .before .before .before .a .given .1) in
+    let b = drew-below _ _ _ _ _ _ (p .fallback) (c .before .before .before .sample2 .ensures) (c .before .b .given .1) in
     let u = part-room _ _ (c .before .before .before .before .before .before .before .before .before .before .before .args .table .plan .«fallback_bucket_width») a in
     let v = part-room _ _ (c .before .before .before .before .before .before .before .before .before .before .before .args .table .plan .«fallback_bucket_width») b in
     omega arith
 
 scan-pairs-requires : tie.Need-scan-pairs-requires
 scan-pairs-requires c κs = let p = c .before .before .before .before .before .before .before .before .before .before .before .pre .0 in
-    let a = drew-below _ _ _ _ _ (p .fallback) (c .before .before .before .before .before .before .before .sample .ensures) (c .before .before .before .before .before .a .given .1) in
-    let b = drew-below _ _ _ _ _ (p .fallback) (c .before .before .before .sample2 .ensures) (c .before .b .given .1) in
+    let a = drew-below _ _ _ _ _ _ (p .fallback) (c .before .before .before .before .before .before .before .sample .ensures) (c .before .before .before .before .before .a .given .1) in
+    let b = drew-below _ _ _ _ _ _ (p .fallback) (c .before .before .before .sample2 .ensures) (c .before .b .given .1) in
     let u = part-room _ _ (c .before .before .before .before .before .before .before .before .before .before .before .args .table .plan .«fallback_bucket_width») a in
     let v = part-room _ _ (c .before .before .before .before .before .before .before .before .before .before .before .args .table .plan .«fallback_bucket_width») b in
     omega arith

@@ -33,12 +33,12 @@ enum-known-index c = search needs
 
 add-at : tie.Need-add-at Inv-loop μ-loop
 add-at c = let p = c .before .before .before .before .before .before .before .before .before .pre .0 in
-    let d = drew-below _ _ _ _ _ (p .primary) (c .before .before .before .sample .ensures) (c .before .index .given .1) in
+    let d = drew-below _ _ _ _ _ _ (p .primary) (c .before .before .before .sample .ensures) (c .before .index .given .1) in
     omega arith
 
 read-requires : tie.Need-read-requires Inv-loop μ-loop
 read-requires c κs = let p = c .before .before .before .before .before .before .before .before .before .pre .0 in
-    let d = drew-below _ _ _ _ _ (p .primary) (c .before .before .before .sample .ensures) (c .before .index .given .1) in
+    let d = drew-below _ _ _ _ _ _ (p .primary) (c .before .before .before .sample .ensures) (c .before .index .given .1) in
     (refl, omega arith, omega arith, omega arith)
 
 enum-known-found : tie.Need-enum-known-found Inv-loop μ-loop
