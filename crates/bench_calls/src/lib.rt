@@ -94,13 +94,7 @@ fn bucket(key: FunnelKey, level: u64, count: u64, cap: u64) -> u64 {
     if 118 <= level {
         return 0;
     }
-    match funnel_draw(
-        key,
-        Domain::Ordinary { level },
-        LogicalProbe(0),
-        count,
-        cap,
-    ) {
+    match funnel_draw(key, Domain::Ordinary { level }, LogicalProbe(0), count, cap) {
         Drawn::Index { index, words: _ } => index,
         Drawn::Refused(_) => 0,
     }

@@ -68,13 +68,7 @@ pub fn elastic_reduce(
     if ELASTIC_WORDS < cap {
         return Reduced::Counter;
     }
-    answer(elastic_draw(
-        elastic_key(seed, identity),
-        level,
-        probe,
-        upper,
-        cap,
-    ))
+    answer(elastic_draw(elastic_key(seed, identity), level, probe, upper, cap))
 }
 
 // An index below upper for a funnel probe, from at most cap words. The refusals are 8, 9 and 10 in that order.
