@@ -72,7 +72,8 @@ module _ (st : State) (key : ℕ) (fs : List ℕ) where
       go sought.Passed g = never (cc)
       go (sought.Refused r) g = never (cc)
 
-  budgeted-never : {A : Type 0} (case : Case) (tries budget here there : ℕ) → budgetedOf (st .n) key (st .limits .«range_word_cap») fs tries budget case here there ≡ chosen.Refused refusal.Schedule → A
+  budgeted-never : {A : Type 0} (case : Case) (tries budget here there : ℕ)
+      → budgetedOf (st .n) key (st .limits .«range_word_cap») fs tries budget case here there ≡ chosen.Refused refusal.Schedule → A
   unfolding budgetedOf
   budgeted-never {A} case tries budget here there h = go (seekOf (st .n) key (st .limits .«range_word_cap») fs here budget) h
     where

@@ -54,7 +54,8 @@ total-within (l ∷ ls) (c ∷ cs) h = omega (arith, h 0, total-within ls cs (λ
 
 -- ---- what lasts
 
-open-settings : (n e seed : ℕ) (limits : Limits) (cs ws fs : List ℕ) (st : State) (cs' ws' fs' : List ℕ) → openOf n e seed limits cs ws fs ≡ opened (opening.Open st) cs' ws' fs' → settingGate n e limits ≡ gated.Passed
+open-settings : (n e seed : ℕ) (limits : Limits) (cs ws fs : List ℕ) (st : State) (cs' ws' fs' : List ℕ)
+    → openOf n e seed limits cs ws fs ≡ opened (opening.Open st) cs' ws' fs' → settingGate n e limits ≡ gated.Passed
 unfolding openOf openBy openGate
 open-settings n e seed limits cs ws fs st cs' ws' fs' h = go (openGate n e limits (length ws) (length fs)) refl h
   where
@@ -77,7 +78,13 @@ pub reached-lasting : {n e seed : ℕ} {limits : Limits} {st : State} {cs ws fs 
 reached-lasting {n} {e} {seed} {limits} (fresh cs₀ ws₀ fs₀ st cs ws fs l h) =
     let f = open-facts n e seed limits cs₀ ws₀ fs₀ st cs ws fs h in
     let c : replicate 32 0 ≡ cs = rw l at (f .2) in
-    rw (← (f .1), ← c, ← (f .3)) (record { settings = open-settings n e seed limits cs₀ ws₀ fs₀ st cs ws fs h; plan-is = refl; words-size = length-replicate {A = ℕ} n 0; beyond = λ k m. getD-zeros 32 k })
+    rw (← (f .1), ← c, ← (f .3))
+    (record {
+      settings = open-settings n e seed limits cs₀ ws₀ fs₀ st cs ws fs h;
+      plan-is = refl;
+      words-size = length-replicate {A = ℕ} n 0;
+      beyond = λ k m. getD-zeros 32 k;
+    })
 reached-lasting (more st cs ws fs id a st' cs' ws' fs' r h) =
     leaves (λ st cs ws fs. Lasting st cs ws) h (lasting-outcome st cs ws fs id (reached-lasting r) (insertOf st cs ws fs id) (insert-outcome st cs ws fs id))
 

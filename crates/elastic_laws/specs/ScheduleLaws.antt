@@ -128,13 +128,15 @@ schedule-both-low st cs ws fs id d (kept r h) e =
 schedule-both-low st cs ws fs id d (stored case level slot probe v h near) e = let z : _≡_ {A = ℕ} 0 1 = cc in absurd (omega arith)
 
 -- No insertion into a table that insertions reach from fresh, refused ones among them, is answered SCHEDULE.
-pub never-schedule : {n e seed : ℕ} {limits : Limits} {st : State} {cs ws fs : List ℕ} → Reached n e seed limits st cs ws fs → (id : ℕ) → insertOf st cs ws fs id .answer ≡ answer.Refused refusal.Schedule → ⊥
+pub never-schedule : {n e seed : ℕ} {limits : Limits} {st : State} {cs ws fs : List ℕ} → Reached n e seed limits st cs ws fs
+    → (id : ℕ) → insertOf st cs ws fs id .answer ≡ answer.Refused refusal.Schedule → ⊥
 never-schedule {st = st} {cs} {ws} {fs} r id h =
     let w = schedule-both-low st cs ws fs id (insertOf st cs ws fs id) (insert-outcome st cs ws fs id) h in
     never-both-low st cs (reached-scheduled r) (w .0) (w .1)
 
 -- and so of a sequence of them
-pub answers-never : {n e seed : ℕ} {limits : Limits} {st : State} {cs ws fs : List ℕ} → Reached n e seed limits st cs ws fs → (ids : List ℕ) → List·Memᴰ (answer.Refused refusal.Schedule) (answersOf st cs ws fs ids) → ⊥
+pub answers-never : {n e seed : ℕ} {limits : Limits} {st : State} {cs ws fs : List ℕ} → Reached n e seed limits st cs ws fs
+    → (ids : List ℕ) → List·Memᴰ (answer.Refused refusal.Schedule) (answersOf st cs ws fs ids) → ⊥
 unfolding answersOf
 answers-never r [] m = List·Memᴰ·not-nil m
 answers-never {st = st} {cs} {ws} {fs} r (id ∷ ids) m =

@@ -19,7 +19,8 @@ use Rattle.elastic_laws.specs.Lookup.{readAt, Answers, found, refused, U
 
 module _ (route : ℕ → ℕ → Reading) (holds : ℕ → Bool) (levels slot last words : ℕ) (only : (s : ℕ) → holds s ≡ true → s ≡ slot) (here : holds slot ≡ true) where
   -- from a position that is no later, over enough positions
-  walk-answers : readAt route levels last ≡ reading.Slot slot words → (tries p : ℕ) (t : Tally) → 0 < p → p ≤ last → last < p + tries → Answers (readAt route levels) slot last (walkOf route holds levels tries p t)
+  walk-answers : readAt route levels last ≡ reading.Slot slot words → (tries p : ℕ) (t : Tally) → 0 < p → p ≤ last → last < p + tries
+      → Answers (readAt route levels) slot last (walkOf route holds levels tries p t)
   unfolding walkOf
   walk-answers reads zero p t some l m = absurd (omega arith)
   walk-answers reads (suc tries) p t some l m = step (readAt route levels p) refl (λ u d. walk-answers reads tries (p + 1) u (omega arith) d (omega arith))
