@@ -1,2 +1,3 @@
 // Demand 3, over definitions alone: an image is accepted exactly if some order of insertions makes it. `specs/Demand.antt` is the
-// answer, `specs/Made.antt` says what "some order of insertions makes it" means; the other files lead from one to the other.
+// answer, `specs/Made.antt` says what "some order of insertions makes it" means and `specs/Called.antt` how a caller does it; the other files lead from one to
+// the other.
