@@ -54,7 +54,8 @@ unfolding findOf searchOf
 find-blocked table counts words flags identity a b j at d v s h e = walk-blocked words flags identity a b j at d v s _ _ 0 h e
 
 -- Two members, each on the other's way: the path of the one comes to the other's slot before its own, and the other way round. Though a
--- search may find both, the image, if it is not dirty, is disordered.
+-- search may find both, the image, if it is not dirty, is disordered. There are such images: `samples/damaged-crossed.img` is one, which `examine` is run
+-- on, and two such members stand in the script that `replay` is run on, with the searches that find both.
 pub crossed : {table : FunnelTable} {counts words flags marks order : List ℕ} → Lent table counts words flags marks order → (a b : ℕ) → (a ≡ b → ⊥)
     → Occupied flags a → Occupied flags b
     → Before b a (tablePath table counts (getD words a 0) .places) → Before a b (tablePath table counts (getD words b 0) .places)

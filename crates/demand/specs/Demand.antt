@@ -4,7 +4,7 @@
 -- (`Lent`: the state is valid and the lent buffers are n long). Assumes nothing.
 use mathlib.Core.List.{List}
 use mathlib.Core.Path.{_≡_, ap, sym, _∙_}
-use Prim.Native.Nat.{ℕ, _≤_, _<_}
+use Prim.Native.Nat.{ℕ, _^_, _≤_, _<_}
 use native.Mathlib.Omega.{arith}
 use lib.ListN.{length, getD, take, drop}
 use Rattle.funnel.specs.declared.table.FunnelTable.{FunnelTable}
@@ -15,8 +15,11 @@ use Rattle.funnel.specs.Dirty.{dirtyAt}
 use Rattle.audit_calls.specs.Check.{Lent, Ended, ended, checkOf}
 use Rattle.queue.specs.Queue.{Found}
 use Rattle.audit.specs.FirstLaws.{first-found}
+use Rattle.audit.specs.Marked.{marksOf}
 use Rattle.audit.specs.ReadyLaws.{unplaced-facts, unplaced-yes}
+use Rattle.words.specs.BytesLaws.{getD-zeros}
 use Rattle.geometry.specs.Funnel.{IsPlan}
+use Rattle.geometry.specs.FunnelLaws.{plan-facts}
 use Rattle.geometry.specs.declared.funnel.FunnelPlan.{FunnelPlan}
 use Rattle.funnel.specs.Fresh.{fresh, after, Sound}
 use Rattle.funnel.specs.FreshLaws.{fresh-after}
@@ -29,7 +32,9 @@ use Rattle.image.specs.Format.{entriesOf}
 use Rattle.image_writer.specs.Writing.{writes}
 use Rattle.image_laws.specs.CallRoundTrip.{load-image-after-write-image}
 use Rattle.image_laws.specs.RoundTrip.{Machine}
-use Rattle.demand.specs.RunLaws.{after-made}
+use Rattle.demand.specs.Called.{Called}
+use Rattle.demand.specs.CalledLaws.{made-called, called-made}
+use Rattle.demand.specs.RunLaws.{after-made, after-table, after-bounded}
 use Rattle.demand.specs.Made.{Occupied, members, LeavesAt, Made, identitiesAt, PartOf, placedWords}
 use Rattle.demand.specs.MadeLaws.{placed-all, placed-same}
 use Rattle.demand.specs.EndLaws.{Finished, accepted-end, disorder-end, dirty-end, made-answer, end-contains, accepted-marks}
@@ -60,6 +65,14 @@ module _ {table : FunnelTable} {counts words flags marks order : List ℕ} (lent
         (identitiesAt words (take placed (c .order)), (take placed (c .order), l)),
     made-accepted,
   )
+
+  -- And to be made is to be what the public calls leave: an opening of such a table on any buffers of its length, and calls of the insertion, each answered
+  -- as inserted.
+  pub called : (lent-counts lent-words lent-flags : List ℕ) → length lent-words ≡ table .n → length lent-flags ≡ table .n
+      → (Made table counts words flags → Called table counts words flags lent-counts lent-words lent-flags)
+      × (Called table counts words flags lent-counts lent-words lent-flags → Made table counts words flags)
+  called lent-counts lent-words lent-flags w f =
+      (made-called (lent .valid) lent-counts lent-words lent-flags w f, called-made (lent .valid) lent-counts lent-words lent-flags)
 
   -- 3. DISORDERED. No order of insertions leaves the image; `placed` is the number of placed slots; the slot named is occupied and not
   -- placed, and every smaller occupied slot is placed.
@@ -127,8 +140,10 @@ module _ {table : FunnelTable} {counts words flags marks order : List ℕ} (lent
       → Found (dirtyAt words flags) 0 (table .n) slot
   dirty-slot slot marks' order' e = first-found _ 0 (table .n) slot (dirty-end lent slot marks' order' e)
 
-  -- Both endings leave 0 and 1 in the marks, as many 1 as were placed, only under members, and the tail of the order as it was.
+  -- Both endings leave 1 in the marks of the slots placed and 0 in the others: as many 1 as were placed, only under members. The tail of the order is
+  -- as it was.
   pub record Left (placed : ℕ) (marks' order' : List ℕ) : Type 0 where
+    pub marks-are : marks' ≡ marksOf (table .n) order' placed
     pub bits : (s : ℕ) → getD marks' s 0 ≤ 1
     pub marked : (s : ℕ) → Occupied marks' s → Occupied flags s
     pub number : placed ≡ members marks'
@@ -138,15 +153,17 @@ module _ {table : FunnelTable} {counts words flags marks order : List ℕ} (lent
 
   pub accepted-left : (placed : ℕ) (marks' order' : List ℕ) → checkOf table counts words flags marks order ≡ ended (checked.Accepted placed) marks' order' → Left placed marks' order'
   accepted-left placed marks' order' e =
-      let t = accepted-end lent placed marks' order' e .turns in
-      record { bits = t .bits; marked = t .part; number = sym (t .number); marks-n = t .marks-n; order-n = t .order-n; tail = t .tail }
+      let f = accepted-end lent placed marks' order' e in
+      let t = f .turns in
+      record { marks-are = f .listed; bits = t .bits; marked = t .part; number = sym (t .number); marks-n = t .marks-n; order-n = t .order-n; tail = t .tail }
 
   pub disordered-left : (placed slot : ℕ) (marks' order' : List ℕ) → checkOf table counts words flags marks order ≡ ended (checked.Disorder placed slot) marks' order' → Left placed marks' order'
   disordered-left placed slot marks' order' e =
-      let t = disorder-end lent placed slot marks' order' e .turns in
-      record { bits = t .bits; marked = t .part; number = sym (t .number); marks-n = t .marks-n; order-n = t .order-n; tail = t .tail }
+      let f = disorder-end lent placed slot marks' order' e in
+      let t = f .turns in
+      record { marks-are = f .listed; bits = t .bits; marked = t .part; number = sym (t .number); marks-n = t .marks-n; order-n = t .order-n; tail = t .tail }
 
--- 5, second sentence. Images of tables that insertions filled from fresh, written and loaded, are accepted: whatever identities were
+-- 5, second sentence. Images of tables that insertions filled from fresh, written and loaded, are accepted: whatever identities of 64 bits were
 -- inserted, and however each was answered, if the writer wrote an image then the loader reads back the same words and flags, and the check
 -- of the table that it answers accepts them, with every member placed.
 pub record Returned (counts : List ℕ) (table : FunnelTable) (words flags image words₀ flags₀ : List ℕ) : Type 0 where
@@ -157,13 +174,13 @@ pub record Returned (counts : List ℕ) (table : FunnelTable) (words flags image
   pub accepts : (marks order : List ℕ) → length marks ≡ table .n → length order ≡ table .n
       → checkOf table' counts words flags marks order .answer ≡ checked.Accepted (members flags)
 
-pub returned : (counts : List ℕ) (n e seed cap : ℕ) (plan : FunnelPlan) → IsPlan n e plan counts → 1 ≤ cap → cap ≤ 256 → (identities : List ℕ)
+pub returned : (counts : List ℕ) (n e seed cap : ℕ) (plan : FunnelPlan) → IsPlan n e plan counts → 1 ≤ cap → cap ≤ 256
+    → seed < 2 ^ 64 → (identities : List ℕ) → ((k : ℕ) → getD identities k 0 < 2 ^ 64)
     → (table : FunnelTable) (words flags : List ℕ) → after counts (fresh n e seed cap plan) identities ≡ record { table = table; words = words; flags = flags }
-    → Machine (table .n) (table .e) (table .seed) words
     → (label out out' : List ℕ) (len : ℕ) → writeImageOf table counts words flags label out ≡ writes (written.Done len) out'
     → (words₀ flags₀ : List ℕ) → length words₀ ≡ table .n → length flags₀ ≡ table .n → Returned counts table words flags (take len out') words₀ flags₀
 unfolding entriesOf
-returned counts n e seed cap plan is low high identities table words flags ran fits label out out' len wrote words₀ flags₀ lw lf =
+returned counts n e seed cap plan is low high small identities each table words flags ran label out out' len wrote words₀ flags₀ lw lf =
     record {
       table' = withCount table (length (entriesOf words flags));
       labelAt = _;
@@ -174,6 +191,22 @@ returned counts n e seed cap plan is low high identities table words flags ran f
   where
     sound : Sound counts (record { table = table; words = words; flags = flags })
     sound = rw ran at (fresh-after is seed cap low high identities)
+
+    -- "u64 identity and seed": what is written has a machine's numbers
+    fits : Machine (table .n) (table .e) (table .seed) words
+    fits =
+        let t = after-table counts n e seed cap plan identities in
+        let q : table ≡ withCount (fresh n e seed cap plan .table) (t .0) = rw ran at (t .1) in
+        let f = plan-facts is in
+        let a : table .n ≡ n = ap (λ (x : FunnelTable). x .n) q in
+        let b : table .e ≡ e = ap (λ (x : FunnelTable). x .e) q in
+        let s : table .seed ≡ seed = ap (λ (x : FunnelTable). x .seed) q in
+        record {
+          n-fits = omega arith;
+          e-fits = omega arith;
+          seed-fits = omega arith;
+          words-fit = rw ran at (after-bounded counts (2 ^ 64) (fresh n e seed cap plan) identities (λ i. omega (arith, getD-zeros n i)) each);
+        }
 
     made : Made table counts words flags
     made = rw ran at (after-made counts n e seed cap plan identities)

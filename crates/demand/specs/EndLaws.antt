@@ -22,6 +22,8 @@ use Rattle.audit_calls.specs.Check.{Lent, Ended, ended, answerOf, endOf, takeAl
 use Rattle.funnel.specs.DirtyLaws.{clean-vacant, clean-flag}
 use Rattle.audit_calls.specs.CheckLaws.{check-audit}
 use Rattle.audit.specs.FirstLaws.{first-none, first-all}
+use Rattle.audit.specs.Marked.{marksOf}
+use Rattle.audit.specs.MarkedLaws.{listed-whole}
 use Rattle.audit.specs.ReadyLaws.{unplaced-vacant, unplaced-marked, unplaced-yes}
 use Rattle.funnel.specs.FreshLaws.{occupied-none}
 use Rattle.demand.specs.Made.{Clean, Occupied, members, Made, PartOf}
@@ -86,6 +88,9 @@ module _ {table : FunnelTable} {counts words flags marks order : List ℕ} (l : 
   pub end-taking : Turns (end .marks) (end .order) (end .placed)
   end-taking = greedy-taking table counts below words flags (l .valid .words-length) order (l .order-n)
 
+  end-listed : end .marks ≡ marksOf (table .n) (end .order) (end .placed)
+  end-listed = listed-whole table counts words flags (table .n) (replicate (table .n) 0) order end refl (l .order-n) refl .marks-are
+
   end-stuck : (s : ℕ) → s < table .n → ready table counts words flags (end .marks) (end .placed) s ≡ false
   end-stuck s h =
       greedy-ends table counts words flags (table .n) (table .n) (replicate (table .n) 0) order 0 (length-replicate (table .n) 0) (omega (arith, occupied-none (table .n))) s h
@@ -126,11 +131,18 @@ module _ {table : FunnelTable} {counts words flags marks order : List ℕ} (l : 
     pub first : firstFrom (unplaced flags marks') 0 (table .n) ≡ r
     pub turns : Turns marks' order' placed
     pub marks-are : marks' ≡ end .marks
+    pub listed : marks' ≡ marksOf (table .n) order' placed
 
   finish : (r : First) (placed : ℕ) (marks' order' : List ℕ) → firstFrom (dirtyAt words flags) 0 (table .n) ≡ Nothing
       → firstFrom (unplaced flags (end .marks)) 0 (table .n) ≡ r → end .placed ≡ placed → end .marks ≡ marks' → end .order ≡ order' → Finished r placed marks' order'
   finish r placed marks' order' d f p m o =
-      record { clean = clean-image words flags (table .n) (l .valid .words-length) (l .valid .flags-length) d; first = rw (← m) f; turns = rw (← m, ← o, ← p) end-taking; marks-are = sym m }
+      record {
+        clean = clean-image words flags (table .n) (l .valid .words-length) (l .valid .flags-length) d;
+        first = rw (← m) f;
+        turns = rw (← m, ← o, ← p) end-taking;
+        marks-are = sym m;
+        listed = rw (← m, ← o, ← p) end-listed;
+      }
 
   pub accepted-end : (placed : ℕ) (marks' order' : List ℕ) → checkOf table counts words flags marks order ≡ ended (checked.Accepted placed) marks' order' → Finished Nothing placed marks' order'
   unfolding auditOf takeAll endOf

@@ -1,4 +1,6 @@
 pub mod Examples
+pub mod Called
+pub mod CalledLaws
 pub mod Crossed
 pub mod Demand
 pub mod EndLaws

@@ -3,15 +3,15 @@ use mathlib.Core.List.{List, [], _∷_}
 use mathlib.Core.Logic.{_⊎_}
 use mathlib.Core.Path.{_≡_}
 use Prim.Native.Nat.{ℕ, _≤_}
-use lib.ListN.{getD, replicate}
+use lib.ListN.{getD}
 use lib.Dec.{eqb}
 use Rattle.words.specs.Pick.{pick}
 use Rattle.words.specs.declared.place.Place.{Place}
 use Rattle.funnel.specs.declared.table.FunnelTable.{FunnelTable}
 use Rattle.funnel.specs.declared.table.Insertion.the-variants as insertion
-use Rattle.funnel.specs.Fresh.{occupied}
+use Rattle.funnel.specs.Fresh.{State, fresh, occupied}
 use Rattle.funnel.specs.Path.{slotOf}
-use Rattle.funnel.specs.Insert.{done, withCount, insertOf}
+use Rattle.funnel.specs.Insert.{done, insertOf}
 
 -- An image is the words and the flags of a table of n slots. "Flag 0 is vacant, any other occupied".
 abbrev pub Occupied : (flags : List ℕ) → ℕ → Type 0
@@ -34,11 +34,14 @@ pub data Inserts (counts : List ℕ) : FunnelTable → (words flags identities s
       → Inserts counts table' words' flags' identities slots table'' words'' flags''
       → Inserts counts table words flags (identity ∷ identities) (slot ∷ slots) table'' words'' flags''
 
--- Inserted into the fresh table (no count, all words 0, all flags 0), each answered as inserted at its slot, the identities end in the
--- image slot for slot, words and flags.
+-- the fresh table of a table's configuration, seed and plan
+abbrev pub freshOf : FunnelTable → State
+freshOf table = fresh (table .n) (table .e) (table .seed) (table .«word_cap») (table .plan)
+
+-- Inserted into the fresh table, each answered as inserted at its slot, the identities end in the image slot for slot, words and flags.
 pub record LeavesAt (table : FunnelTable) (counts identities slots words flags : List ℕ) : Type 0 where
   pub after : FunnelTable
-  pub inserts : Inserts counts (withCount table 0) (replicate (table .n) 0) (replicate (table .n) 0) identities slots after words flags
+  pub inserts : Inserts counts (freshOf table .table) (freshOf table .words) (freshOf table .flags) identities slots after words flags
 
 -- An order of identities leaves an image: wherever they were answered to be.
 abbrev pub Leaves : FunnelTable → (counts identities words flags : List ℕ) → Type 0

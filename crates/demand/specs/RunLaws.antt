@@ -3,8 +3,8 @@
 use mathlib.Core.List.{List, [], _∷_, _++_}
 use mathlib.Core.Logic.{⊎-elim}
 use mathlib.Core.Path.{_≡_, refl, ap, sym, _∙_}
-use Prim.Native.Nat.{ℕ, _+_}
-use lib.ListN.{replicate}
+use Prim.Native.Nat.{ℕ, zero, suc, _+_, _<_}
+use lib.ListN.{getD, set, replicate}
 use Rattle.words.specs.declared.place.Place.{Place}
 use Rattle.geometry.specs.declared.funnel.FunnelPlan.{FunnelPlan}
 use Rattle.funnel.specs.declared.table.FunnelTable.{FunnelTable}
@@ -62,6 +62,34 @@ inserts-table {counts} {t} {t'} {words} {flags} table k e (one {table' = u} {wor
     let w = inserted-facts t counts words flags identity probes place (ap (λ (d : Done). d .answer) h) in
     let s : u ≡ withCount table (k + 1) = ap (λ (x : Done). x .table) (sym h ∙ w .result) ∙ rw e in
     inserts-table table (k + 1) s r
+
+-- what any insertions make of a fresh table differs in its count alone
+pub after-table : (counts : List ℕ) (n e seed cap : ℕ) (plan : FunnelPlan) (identities : List ℕ)
+    → (j : ℕ) × (after counts (fresh n e seed cap plan) identities .table ≡ withCount (fresh n e seed cap plan .table) j)
+after-table counts n e seed cap plan identities =
+    let s = fresh n e seed cap plan in
+    let r = ran-after counts s s identities (record { identities = []; slots = []; inserts = none }) in
+    inserts-table (s .table) 0 refl (r .inserts)
+
+-- ---- no word is larger than what was inserted
+
+set-bounded : (most : ℕ) (words : List ℕ) (s v : ℕ) → ((i : ℕ) → getD words i 0 < most) → v < most → (i : ℕ) → getD (set words s v) i 0 < most
+set-bounded most [] s v h b i = h i
+set-bounded most (w ∷ words) zero v h b zero = b
+set-bounded most (w ∷ words) zero v h b (suc i) = h (suc i)
+set-bounded most (w ∷ words) (suc s) v h b zero = h zero
+set-bounded most (w ∷ words) (suc s) v h b (suc i) = set-bounded most words s v (λ j. h (suc j)) b i
+
+module _ (counts : List ℕ) (most : ℕ) where
+  next-bounded : (state : State) (identity : ℕ) → ((i : ℕ) → getD (state .words) i 0 < most) → identity < most → (i : ℕ) → getD (next counts state identity .words) i 0 < most
+  next-bounded state identity h b i =
+      ⊎-elim (λ c. rw (c .2 .result) (set-bounded most (state .words) (slotOf (c .1)) identity h b i)) (λ s. rw s (h i)) (insert-changes (state .table) counts (state .words) (state .flags) identity)
+
+  pub after-bounded : (state : State) (identities : List ℕ) → ((i : ℕ) → getD (state .words) i 0 < most) → ((k : ℕ) → getD identities k 0 < most)
+      → (i : ℕ) → getD (after counts state identities .words) i 0 < most
+  unfolding after
+  after-bounded state [] h b = h
+  after-bounded state (identity ∷ identities) h b = after-bounded (next counts state identity) identities (next-bounded state identity h (b 0)) (λ k. b (suc k))
 
 -- what any insertions leave of a fresh table is made
 pub after-made : (counts : List ℕ) (n e seed cap : ℕ) (plan : FunnelPlan) (identities : List ℕ)
