@@ -26,7 +26,7 @@ use Rattle.image_writer.specs.declared.writer.Written.the-variants as written
 use Rattle.image_calls.specs.Calls.{writeImageOf, loadings, loadImageOf}
 use Rattle.image_writer.specs.DirtyLaws.{entries-most}
 use Rattle.image.specs.Format.{entriesOf}
-use Rattle.image_writer.specs.Writing.{writes}
+use Rattle.image_writer.specs.Writing.{writes, headOf}
 use Rattle.image_laws.specs.CallRoundTrip.{load-image-after-write-image}
 use Rattle.image_laws.specs.RoundTrip.{Machine}
 use Rattle.demand.specs.RunLaws.{after-made}
@@ -159,7 +159,7 @@ pub record Returned (counts : List ℕ) (table : FunnelTable) (words flags image
 
 pub returned : (counts : List ℕ) (n e seed cap : ℕ) (plan : FunnelPlan) → IsPlan n e plan counts → 1 ≤ cap → cap ≤ 256 → (identities : List ℕ)
     → (table : FunnelTable) (words flags : List ℕ) → after counts (fresh n e seed cap plan) identities ≡ record { table = table; words = words; flags = flags }
-    → Machine (table .n) (table .e) (table .seed) words
+    → Machine (headOf table) words
     → (label out out' : List ℕ) (len : ℕ) → writeImageOf table counts words flags label out ≡ writes (written.Done len) out'
     → (words₀ flags₀ : List ℕ) → length words₀ ≡ table .n → length flags₀ ≡ table .n → Returned counts table words flags (take len out') words₀ flags₀
 unfolding entriesOf
