@@ -29,7 +29,7 @@ use Rattle.image_writer.specs.declared.writer.Written.the-variants as written
 use Rattle.image_calls.specs.Calls.{writeImageOf, loadings, loadImageOf}
 use Rattle.image_writer.specs.DirtyLaws.{entries-most}
 use Rattle.image.specs.Format.{entriesOf}
-use Rattle.image_writer.specs.Writing.{writes}
+use Rattle.image_writer.specs.Writing.{writes, headOf}
 use Rattle.image_laws.specs.CallRoundTrip.{load-image-after-write-image}
 use Rattle.image_laws.specs.RoundTrip.{Machine}
 use Rattle.demand.specs.Called.{Called}
@@ -193,7 +193,7 @@ returned counts n e seed cap plan is low high small identities each table words 
     sound = rw ran at (fresh-after is seed cap low high identities)
 
     -- "u64 identity and seed": what is written has a machine's numbers
-    fits : Machine (table .n) (table .e) (table .seed) words
+    fits : Machine (headOf table) words
     fits =
         let t = after-table counts n e seed cap plan identities in
         let q : table ≡ withCount (fresh n e seed cap plan .table) (t .0) = rw ran at (t .1) in

@@ -17,7 +17,7 @@ use Rattle.image.specs.Format.{labelMost}
 use Rattle.image_calls.specs.Loading.{loads, loadOf}
 use Rattle.image_calls.specs.declared.loader.Filled.{Filled}
 use Rattle.image_calls.specs.declared.loader.Filled.the-variants as filled
-use Rattle.image_writer.specs.Writing.{writes, writeOf}
+use Rattle.image_writer.specs.Writing.{writes, headOf, writeOf}
 use Rattle.image_writer.specs.declared.writer.Written.{Written}
 use Rattle.lent.specs.Lent.{wordsOf, wordCount}
 use Rattle.lent.specs.LentLaws.{count-some}
@@ -61,7 +61,7 @@ module _ (state words flags image answer : List ℕ) (table : FunnelTable) (coun
       rw (n, a) (sym (rw (held, ← gate-of, p)))
 
   pub load-passed : (f : Filled) (state' words' flags' : List ℕ) → g ≡ Passed
-      → loads f words' flags' ≡ loadOf (table .n) (table .e) (table .seed) (wordsOf words) flags image
+      → loads f words' flags' ≡ loadOf (headOf table) (wordsOf words) flags image
       → state' ≡ filledIn state f → reply number answer' ≡ reply (filledNumber f) (says (filledFields f))
       → left number answer' state' words' flags' ≡ loadCall state words flags image answer
   unfolding loadCall loadLeft
@@ -122,7 +122,7 @@ module _ (state words flags label image answer : List ℕ) (table : FunnelTable)
         rw (n, a) (sym (rw (held, ← write-gate-of, p)))
 
     pub write-passed : (x : Written) (image' : List ℕ) → g ≡ Passed
-        → writes x image' ≡ writeOf (table .n) (table .e) (table .seed) label (wordsOf words) flags image
+        → writes x image' ≡ writeOf (headOf table) label (wordsOf words) flags image
         → reply number answer' ≡ reply (writtenReport x .number) (says (writtenFields x))
         → sent number answer' image' ≡ writeCall state words flags label image answer
     unfolding writeCall writeLeft

@@ -12,7 +12,7 @@ use Rattle.image_calls.specs.Calls.{writeGate, loadedOf, loadedReport, writtenR
 use Rattle.image_calls.specs.Loading.{Loads, loadOf}
 use Rattle.image_calls.specs.declared.loader.Filled.{Filled}
 use Rattle.image_calls.specs.declared.loader.Filled.the-variants as filled
-use Rattle.image_writer.specs.Writing.{Writes, writeOf}
+use Rattle.image_writer.specs.Writing.{Writes, headOf, writeOf}
 use Rattle.lent.specs.Lent.{wordsOf, wordCount}
 use Rattle.gridder_answer.specs.Gate.{blockGate}
 use Rattle.gridder_answer.specs.Answer.{answerLength, says, saying}
@@ -38,7 +38,7 @@ unfoldable pub loadCall : (state words flags image answer : List ℕ) → Left
 loadCall state words flags image answer =
     pick (holdsFunnel state)
     (loadLeft answer state (wordsOf words) flags (stateGate state words flags answer) (tableIn state)
-    (loadOf (tableIn state .n) (tableIn state .e) (tableIn state .seed) (wordsOf words) flags image))
+    (loadOf (headOf (tableIn state)) (wordsOf words) flags image))
     (left (numberOf name.State) answer state (wordsOf words) flags)
 
 -- ---- writing
@@ -69,5 +69,5 @@ unfoldable pub writeCall : (state words flags label image answer : List ℕ) →
 writeCall state words flags label image answer =
     pick (holdsFunnel state)
     (writeLeft answer image (writeStateGate state words flags label answer)
-    (writeOf (tableIn state .n) (tableIn state .e) (tableIn state .seed) label (wordsOf words) flags image))
+    (writeOf (headOf (tableIn state)) label (wordsOf words) flags image))
     (sent (numberOf name.State) answer image)

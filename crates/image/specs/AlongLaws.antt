@@ -5,9 +5,10 @@ use Prim.Native.Nat.{ℕ, suc, _+_, _*_, _-_, _<_, _≤_}
 use native.Mathlib.Omega.{arith}
 use lib.ListN.{length}
 use borrow.Author.Tests.{lt-ltb, le-ltb, eq-eqb, ne-eqb}
-use Rattle.image.specs.Format.{entrySize}
+use Rattle.image.specs.Format.{entrySize, fields}
+use Rattle.image.specs.Head.{unnamed}
 use Rattle.image.specs.Reading.{lowAfter, frameOf, floorAfter, Seen, seen, told, bad, endOf, fieldThen, readFrom, readOf}
-use Rattle.image.specs.Cursor.{cursor, cursorOf, contentOf, tookOf, outcomeOf}
+use Rattle.image.specs.Cursor.{cursor, cursorOf, outlineIn, contentOf, tookOf, outcomeOf}
 use Rattle.image.specs.declared.reader.Outcome.the-variants.{Good}
 use Rattle.image.specs.FrameLaws.{Framing, framing}
 use Rattle.image.specs.CursorLaws.{content-off, content-ok, content-floor, took-told, took-small}
@@ -27,9 +28,9 @@ pub record Along (b : List ℕ) (c : Cursor) : Type 0 where
   pub small : length (saw .entries) * entrySize ≤ pos
   pub left : readOf b ≡ readFrom b fuel saw lo pos
 
-pub along-none : (b : List ℕ) → Along b (cursor 1 0 0 0 0 0 0 0 0)
+pub along-none : (b : List ℕ) → Along b (cursor 0 0 unnamed 0 0 0 0)
 unfolding readOf floorAfter
-along-none b = record { saw = seen 0 0 0 0 0 []; lo = 1; pos = 0; fuel = suc (length b); same = refl; enough = omega arith; within = omega arith; small = omega arith; left = refl }
+along-none b = record { saw = seen unnamed 0 0 []; lo = 0; pos = 0; fuel = suc (length b); same = refl; enough = omega arith; within = omega arith; small = omega arith; left = refl }
 
 module _ {b : List ℕ} {c : Cursor} (a : Along b c) where
   pub along-at : c .at ≡ a .pos
@@ -41,16 +42,16 @@ module _ {b : List ℕ} {c : Cursor} (a : Along b c) where
   more : a .fuel ≡ suc (a .fuel - 1)
   more = let e = a .enough in let w = a .within in omega arith
 
-  pub along-wrong : (p : ℕ) → frameOf b (c .low) (c .at) ≡ Wrong p → readOf b ≡ bad p
+  pub along-wrong : (p : ℕ) → frameOf fields b (c .low) (c .at) ≡ Wrong p → readOf b ≡ bad p
   unfolding readFrom fieldThen
-  along-wrong p h = let g : frameOf b (a .lo) (a .pos) ≡ Wrong p = rw (a .same) at h in a .left ∙ rw (more, g)
+  along-wrong p h = let g : frameOf fields b (a .lo) (a .pos) ≡ Wrong p = rw (a .same) at h in a .left ∙ rw (more, g)
 
-  module _ (tag len : ℕ) (h : frameOf b (c .low) (c .at) ≡ Field tag len) where
-    here : frameOf b (a .lo) (a .pos) ≡ Field tag len
+  module _ (tag len : ℕ) (h : frameOf fields b (c .low) (c .at) ≡ Field tag len) where
+    here : frameOf fields b (a .lo) (a .pos) ≡ Field tag len
     here = rw (a .same) at h
 
-    pub along-framing : Framing b (c .low) (c .at) tag len
-    along-framing = framing b (c .low) (c .at) tag len h
+    pub along-framing : Framing fields b (c .low) (c .at) tag len
+    along-framing = framing fields b (c .low) (c .at) tag len h
 
     pub along-off : contentOf b c tag (c .at + 3) len ≡ Off → readOf b ≡ bad (c .at)
     unfolding readFrom fieldThen
@@ -74,7 +75,7 @@ module _ {b : List ℕ} {c : Cursor} (a : Along b c) where
 
       -- none
       pub along-good : tag ≡ 6 → length b ≤ c .at + 3 + len
-          → Good (record { n = c .n; e = c .e; seed = c .seed; «label_at» = c .«label_at»; «label_len» = c .«label_len»; count = c .count }) ≡ outcomeOf (readOf b)
+          → Good (outlineIn c) ≡ outcomeOf (readOf b)
       unfolding endOf
       along-good t l = rw (along-last t, le-ltb _ _ l, a .same)
 
@@ -82,11 +83,11 @@ module _ {b : List ℕ} {c : Cursor} (a : Along b c) where
       pub along-more : (tag ≡ 6 → ⊥) → Along b (tookOf b c tag (c .at + 3) len floor)
       unfolding readFrom fieldThen
       along-more n =
-          let w = framing b (a .lo) (a .pos) tag len here .within in
+          let w = framing fields b (a .lo) (a .pos) tag len here .within in
           let e = a .enough in
           record {
             saw = told b (a .saw) tag (a .pos + 3) len;
-            lo = lowAfter tag len;
+            lo = lowAfter fields tag len;
             pos = a .pos + 3 + len;
             fuel = a .fuel - 1;
             same = rw (a .same) (took-told b (a .saw) (a .lo) (a .pos) tag (a .pos + 3) len floor (content-floor b (a .saw) (a .lo) (a .pos) tag (a .pos + 3) len floor fine));

@@ -8,7 +8,7 @@ use lib.ListN.{length, length-append}
 use lib.Dec.{eqb}
 use Rattle.words.specs.Bytes.{numAt}
 use Rattle.words.specs.Pick.{pick}
-use Rattle.image.specs.Format.{Entry, entrySize}
+use Rattle.image.specs.Format.{Entry, entrySize, fields}
 use Rattle.image.specs.Reading.{lowAfter, entriesAt, rising, floorAfter, Seen, told, rightContent}
 use Rattle.image.specs.Cursor.{cursor, cursorOf, riseOf, contentOf, tookOf}
 use Rattle.image.specs.TestLaws.{cases}
@@ -30,7 +30,7 @@ length-entries b at (suc k) = ap suc (length-entries b (at + entrySize) k)
 module _ (b : List ℕ) (s : Seen) (low at tag p len : ℕ) where
   pub content-off : contentOf b (cursorOf s low at) tag p len ≡ Off → rightContent b s tag p len ≡ false
   unfolding contentOf rightContent riseOf
-  content-off h = go (eqb tag 5) (eqb tag 6) (rising (s .n) (floorAfter 0 (s .entries)) (entriesAt b p (len / entrySize))) (eqb (numAt b p 8) (length (s .entries))) h
+  content-off h = go (eqb tag 5) (eqb tag 6) (rising (s .head .n) (floorAfter 0 (s .entries)) (entriesAt b p (len / entrySize))) (eqb (numAt b p 8) (length (s .entries))) h
     where
       go : (x y u v : Bool) → pick x (pick u (Right (floorAfter (floorAfter 0 (s .entries)) (entriesAt b p (len / entrySize)))) Off) (pick y (pick v (Right (floorAfter 0 (s .entries))) Off) (Right (floorAfter 0 (s .entries)))) ≡ Off
           → pick x u (pick y v true) ≡ false
@@ -42,7 +42,7 @@ module _ (b : List ℕ) (s : Seen) (low at tag p len : ℕ) where
 
   pub content-ok : (floor : ℕ) → contentOf b (cursorOf s low at) tag p len ≡ Right floor → rightContent b s tag p len ≡ true
   unfolding contentOf rightContent riseOf
-  content-ok floor h = go (eqb tag 5) (eqb tag 6) (rising (s .n) (floorAfter 0 (s .entries)) (entriesAt b p (len / entrySize))) (eqb (numAt b p 8) (length (s .entries))) h
+  content-ok floor h = go (eqb tag 5) (eqb tag 6) (rising (s .head .n) (floorAfter 0 (s .entries)) (entriesAt b p (len / entrySize))) (eqb (numAt b p 8) (length (s .entries))) h
     where
       go : (x y u v : Bool) → pick x (pick u (Right (floorAfter (floorAfter 0 (s .entries)) (entriesAt b p (len / entrySize)))) Off) (pick y (pick v (Right (floorAfter 0 (s .entries))) Off) (Right (floorAfter 0 (s .entries)))) ≡ Right floor
           → pick x u (pick y v true) ≡ true
@@ -55,7 +55,7 @@ module _ (b : List ℕ) (s : Seen) (low at tag p len : ℕ) where
   -- after entries the floor is that of all the entries
   pub content-floor : (floor : ℕ) → contentOf b (cursorOf s low at) tag p len ≡ Right floor → eqb tag 5 ≡ true → floor ≡ floorAfter 0 (s .entries ++ entriesAt b p (len / entrySize))
   unfolding contentOf riseOf
-  content-floor floor h t = go (rising (s .n) (floorAfter 0 (s .entries)) (entriesAt b p (len / entrySize))) (rw t at h)
+  content-floor floor h t = go (rising (s .head .n) (floorAfter 0 (s .entries)) (entriesAt b p (len / entrySize))) (rw t at h)
     where
       go : (u : Bool) → pick u (Right (floorAfter (floorAfter 0 (s .entries)) (entriesAt b p (len / entrySize)))) Off ≡ Right floor → floor ≡ floorAfter 0 (s .entries ++ entriesAt b p (len / entrySize))
       go true e = let q : floorAfter (floorAfter 0 (s .entries)) (entriesAt b p (len / entrySize)) ≡ floor = cc in sym q ∙ sym (floor-append 0 (s .entries) (entriesAt b p (len / entrySize)))
@@ -63,29 +63,15 @@ module _ (b : List ℕ) (s : Seen) (low at tag p len : ℕ) where
 
   -- the cursor follows what is told
   pub took-told : (floor : ℕ) → (eqb tag 5 ≡ true → floor ≡ floorAfter 0 (s .entries ++ entriesAt b p (len / entrySize)))
-      → tookOf b (cursorOf s low at) tag p len floor ≡ cursorOf (told b s tag p len) (lowAfter tag len) (p + len)
+      → tookOf b (cursorOf s low at) tag p len floor ≡ cursorOf (told b s tag p len) (lowAfter fields tag len) (p + len)
   unfolding tookOf told
-  took-told floor h =
-      cases (eqb tag 1) (λ e1. rw e1) (λ n1.
-      cases (eqb tag 2) (λ e2. rw (n1, e2)) (λ n2.
-      cases (eqb tag 3) (λ e3. rw (n1, n2, e3)) (λ n3.
-      cases (eqb tag 4) (λ e4. rw (n1, n2, n3, e4)) (λ n4.
-      cases (eqb tag 5) (λ e5. rw (n1, n2, n3, n4, e5, h e5, length-append, length-entries)) (λ n5. rw (n1, n2, n3, n4, n5))))))
+  took-told floor h = cases (eqb tag 5) (λ e. rw (e, h e, length-append, length-entries)) (λ n. rw n)
 
 pub took-small : (b : List ℕ) (s : Seen) (tag p len : ℕ) → length (s .entries) * entrySize ≤ p → length (told b s tag p len .entries) * entrySize ≤ p + len
 unfolding told
 took-small b s tag p len h =
-    cases (eqb tag 1) (λ e1. rw e1 (omega arith)) (λ n1.
-    cases (eqb tag 2) (λ e2. rw (n1, e2) (omega arith)) (λ n2.
-    cases (eqb tag 3) (λ e3. rw (n1, n2, e3) (omega arith)) (λ n3.
-    cases (eqb tag 4) (λ e4. rw (n1, n2, n3, e4) (omega arith)) (λ n4.
-    cases (eqb tag 5) (λ e5. rw (n1, n2, n3, n4, e5, length-append, length-entries) (omega arith)) (λ n5. rw (n1, n2, n3, n4, n5) (omega arith))))))
+    cases (eqb tag 5) (λ e. rw (e, length-append, length-entries) (omega arith)) (λ n. rw n (omega arith))
 
 pub took-at : (b : List ℕ) (c : Cursor) (tag p len floor : ℕ) → tookOf b c tag p len floor .at ≡ p + len
 unfolding tookOf
-took-at b c tag p len floor =
-    cases (eqb tag 1) (λ e1. rw e1) (λ n1.
-    cases (eqb tag 2) (λ e2. rw (n1, e2)) (λ n2.
-    cases (eqb tag 3) (λ e3. rw (n1, n2, e3)) (λ n3.
-    cases (eqb tag 4) (λ e4. rw (n1, n2, n3, e4)) (λ n4.
-    cases (eqb tag 5) (λ e5. rw (n1, n2, n3, n4, e5)) (λ n5. rw (n1, n2, n3, n4, n5))))))
+took-at b c tag p len floor = refl

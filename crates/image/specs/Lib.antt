@@ -3,6 +3,8 @@ pub mod Cursor
 pub mod CursorLaws
 pub mod Format
 pub mod FrameLaws
+pub mod Head
+pub mod KindLaws
 pub mod Reading
 pub mod ReadingLaws
 pub mod RiseLaws

@@ -1,54 +1,70 @@
 -- What an image says, or the place where it is malformed: fields are found by their offset, one after the other. Assumes nothing.
-use mathlib.Core.Bool.{Bool, true, false}
+use mathlib.Core.Bool.{Bool, true, false, not}
 use mathlib.Core.List.{List, [], _∷_, _++_}
 use Prim.Native.Nat.{ℕ, zero, suc, _+_, _/_, _%_}
-use lib.ListN.{length, getD}
+use lib.ListN.{length, getD, drop}
 use lib.Dec.{eqb, ltb, leb}
 use Rattle.words.specs.Bytes.{numAt}
 use Rattle.words.specs.Pick.{pick}
-use Rattle.image.specs.Format.{Entry, entry, entrySize, fieldBytes, labelMost}
+use Rattle.image.specs.Format.{Entry, entry, entrySize, fields, none}
+use Rattle.image.specs.Head.{headed, unnamed}
 use Rattle.image.specs.declared.field.Framed.{Framed}
 use Rattle.image.specs.declared.field.Framed.the-variants.{Wrong, Field}
+use Rattle.image.specs.declared.field.Kind.{Kind}
+use Rattle.image.specs.declared.head.Head.{Head}
 
 abbrev pub between : ℕ → ℕ → ℕ → Bool
 between lo x hi = pick (leb lo x) (leb x hi) false
 
--- ---- which tags are right, and which lengths
+-- ---- which tags are right, and which lengths, in a format: a list of kinds in their order
 
--- "Fields stand in tag order": the rank of a tag is its place in that order, 7 for a byte that is no tag
-unfoldable pub rankOf : ℕ → ℕ
-rankOf tag = pick (leb tag 6) tag 7
+-- the rank of a tag is the place of its kind in the format, the number of kinds for a byte that is no tag
+unfoldable pub rankOf : List Kind → ℕ → ℕ
+rankOf [] tag = 0
+rankOf (k ∷ ks) tag = pick (eqb (k .tag) tag) 0 (suc (rankOf ks tag))
 
--- `low` is the lowest rank that may come next. The fields 1, 2 and 3 are demanded, from 4 on each up to the last may come.
-unfoldable pub rightTag : ℕ → ℕ → Bool
-rightTag low tag = pick (ltb low 4) (eqb (rankOf tag) low) (between low (rankOf tag) 6)
+-- whether a field of this tag may come first, before all others of these kinds: up to the first kind that must stand, each may
+unfoldable pub mayCome : List Kind → ℕ → Bool
+mayCome [] tag = false
+mayCome (k ∷ ks) tag = pick (eqb (k .tag) tag) true (pick (k .must) false (mayCome ks tag))
 
--- "n (8 bytes), e (4), seed (8), label (1 to 64 bytes), entries (16 bytes each, 4,095 a field), count (8)"
-unfoldable pub rightLength : ℕ → ℕ → Bool
-rightLength tag len =
-    pick (eqb tag 2) (eqb len 4)
-    (pick (eqb tag 4) (between 1 len labelMost)
-    (pick (eqb tag 5) (pick (eqb (len % entrySize) 0) (between entrySize len fieldBytes) false)
-    (eqb len 8)))
+-- `low` is the lowest rank that may come next
+unfoldable pub rightTag : List Kind → ℕ → ℕ → Bool
+rightTag ks low tag = mayCome (drop low ks) tag
 
--- tags rise, and after a full field 5 another may come: "After a short field 5 only tag 6 is right"
-unfoldable pub lowAfter : ℕ → ℕ → ℕ
-lowAfter tag len = pick (eqb tag 5) (pick (eqb len fieldBytes) (rankOf tag) (rankOf tag + 1)) (rankOf tag + 1)
+-- the kind of a rank
+unfoldable pub kindAt : List Kind → ℕ → Kind
+kindAt ks rank = getD ks rank none
+
+-- whether a kind may have a body of `len` bytes
+unfoldable pub fits : Kind → ℕ → Bool
+fits k len = pick (eqb (len % k .unit) 0) (between (k .least) len (k .most)) false
+
+unfoldable pub rightLength : List Kind → ℕ → ℕ → Bool
+rightLength ks tag len = fits (kindAt ks (rankOf ks tag)) len
+
+-- the lowest rank behind a field of a kind: fields rise, and after a full field 5 another may come: "After a short field 5 only tag 6 is right"
+unfoldable pub lowBehind : Kind → ℕ → ℕ → ℕ
+lowBehind k rank len = pick (k .again) (pick (eqb len (k .most)) rank (rank + 1)) (rank + 1)
+
+unfoldable pub lowAfter : List Kind → ℕ → ℕ → ℕ
+lowAfter ks tag len = lowBehind (kindAt ks (rankOf ks tag)) (rankOf ks tag) len
 
 -- ---- one field
 
+abbrev pub wrongIf : Bool → ℕ → Framed → Framed
+wrongIf test place otherwise = pick test (Wrong place) otherwise
+
 -- "Within a field the order is: tag, both length bytes present, length, body present, content": the place is the field's offset
 -- for "a wrong tag, length or content", and "the image's length if it ends before or inside a field whose tag is right"
-unfoldable pub frameOf : List ℕ → ℕ → ℕ → Framed
-frameOf b low at =
-    pick (leb (length b) at) (Wrong (length b))
-    (pick (rightTag low (getD b at 0))
-    (pick (ltb (length b) (at + 3)) (Wrong (length b))
-    (pick (rightLength (getD b at 0) (numAt b (at + 1) 2))
-    (pick (ltb (length b) (at + 3 + numAt b (at + 1) 2)) (Wrong (length b))
-    (Field (getD b at 0) (numAt b (at + 1) 2)))
-    (Wrong at)))
-    (Wrong at))
+unfoldable pub frameOf : List Kind → List ℕ → ℕ → ℕ → Framed
+frameOf ks b low at =
+    wrongIf (leb (length b) at) (length b)
+    (wrongIf (not (rightTag ks low (getD b at 0))) at
+    (wrongIf (ltb (length b) (at + 3)) (length b)
+    (wrongIf (not (rightLength ks (getD b at 0) (numAt b (at + 1) 2))) at
+    (wrongIf (ltb (length b) (at + 3 + numAt b (at + 1) 2)) (length b)
+    (Field (getD b at 0) (numAt b (at + 1) 2))))))
 
 -- ---- what the fields say
 
@@ -69,30 +85,34 @@ floorAfter floor (x ∷ es) = floorAfter (x .slot + 1) es
 
 -- what the fields so far said; the label's place is two zeros if there is none
 pub record Seen : Type 0 where
-  pub n : ℕ
-  pub e : ℕ
-  pub seed : ℕ
+  pub head : Head
   pub labelAt : ℕ
   pub labelLen : ℕ
   pub entries : List Entry
 
-abbrev pub seen : ℕ → ℕ → ℕ → ℕ → ℕ → List Entry → Seen
-seen n e seed la ll es = record { n = n; e = e; seed = seed; labelAt = la; labelLen = ll; entries = es }
+abbrev pub seen : Head → ℕ → ℕ → List Entry → Seen
+seen h la ll es = record { head = h; labelAt = la; labelLen = ll; entries = es }
 
--- what they say with a body of `len` bytes at `at` under a tag
+-- what names the table, with a body at `at` under a tag
+unfoldable pub toldHead : List ℕ → Head → ℕ → ℕ → Head
+toldHead b h tag at =
+    pick (eqb tag 1) (headed (numAt b at 8) (h .e) (h .seed))
+    (pick (eqb tag 2) (headed (h .n) (numAt b at 4) (h .seed))
+    (pick (eqb tag 3) (headed (h .n) (h .e) (numAt b at 8))
+    h))
+
+-- what the fields say with a body of `len` bytes at `at` under a tag
 unfoldable pub told : List ℕ → Seen → ℕ → ℕ → ℕ → Seen
 told b s tag at len =
-    pick (eqb tag 1) (seen (numAt b at 8) (s .e) (s .seed) (s .labelAt) (s .labelLen) (s .entries))
-    (pick (eqb tag 2) (seen (s .n) (numAt b at 4) (s .seed) (s .labelAt) (s .labelLen) (s .entries))
-    (pick (eqb tag 3) (seen (s .n) (s .e) (numAt b at 8) (s .labelAt) (s .labelLen) (s .entries))
-    (pick (eqb tag 4) (seen (s .n) (s .e) (s .seed) at len (s .entries))
-    (pick (eqb tag 5) (seen (s .n) (s .e) (s .seed) (s .labelAt) (s .labelLen) (s .entries ++ entriesAt b at (len / entrySize)))
-    s))))
+    seen (toldHead b (s .head) tag at)
+    (pick (eqb tag 4) at (s .labelAt))
+    (pick (eqb tag 4) len (s .labelLen))
+    (pick (eqb tag 5) (s .entries ++ entriesAt b at (len / entrySize)) (s .entries))
 
 -- "Only slots and field 6 can have wrong content; .. slots are held against field 1"; "6 holds the number of entries"
 unfoldable pub rightContent : List ℕ → Seen → ℕ → ℕ → ℕ → Bool
 rightContent b s tag at len =
-    pick (eqb tag 5) (rising (s .n) (floorAfter 0 (s .entries)) (entriesAt b at (len / entrySize)))
+    pick (eqb tag 5) (rising (s .head .n) (floorAfter 0 (s .entries)) (entriesAt b at (len / entrySize)))
     (pick (eqb tag 6) (eqb (numAt b at 8) (length (s .entries)))
     true)
 
@@ -113,14 +133,14 @@ fieldThen b s at (Wrong place) more = bad place
 fieldThen b s at (Field tag len) more =
     pick (rightContent b s tag (at + 3) len)
     (pick (eqb tag 6) (endOf b s (at + 3 + len))
-    (more (told b s tag (at + 3) len) (lowAfter tag len) (at + 3 + len)))
+    (more (told b s tag (at + 3) len) (lowAfter fields tag len) (at + 3 + len)))
     (bad at)
 
 -- fields from `at` on until field 6, at most f of them
 unfoldable pub readFrom : List ℕ → ℕ → Seen → ℕ → ℕ → Reading
 readFrom b zero s low at = bad at
-readFrom b (suc f) s low at = fieldThen b s at (frameOf b low at) (λ t l a. readFrom b f t l a)
+readFrom b (suc f) s low at = fieldThen b s at (frameOf fields b low at) (λ t l a. readFrom b f t l a)
 
 -- an image has fewer fields than bytes, so the bound plays no part (`read-fuel`)
 unfoldable pub readOf : List ℕ → Reading
-readOf b = readFrom b (suc (length b)) (seen 0 0 0 0 0 []) 1 0
+readOf b = readFrom b (suc (length b)) (seen unnamed 0 0 []) 0 0

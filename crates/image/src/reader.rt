@@ -3,13 +3,15 @@ ghost use mathlib.Core.Bool.{true};
 ghost use mathlib.Core.Path.{_≡_};
 ghost use Prim.Native.Nat.{_+_, _*_, _/_, _<_, _≤_, _^_};
 ghost use lib.ListN.{length};
-ghost use Rattle.image.specs.Format.{entrySize};
-ghost use Rattle.image.specs.Reading.{rightLength, entriesAt, readOf};
-ghost use Rattle.image.specs.Cursor.{cursor, headIn, riseOf, contentOf, tookOf, outcomeOf};
+ghost use Rattle.image.specs.Format.{entrySize, fields};
+ghost use Rattle.image.specs.Head.{unnamed};
+ghost use Rattle.image.specs.Reading.{rightLength, entriesAt, toldHead, readOf};
+ghost use Rattle.image.specs.Cursor.{cursor, outlineIn, riseOf, contentOf, tookOf, outcomeOf};
 use crate::field::ENTRY_SIZE;
 use crate::field::Framed;
 use crate::field::frame;
 use crate::field::low_after;
+use crate::head::Head;
 use words::bytes::read32;
 use words::bytes::read64;
 
@@ -18,9 +20,7 @@ use words::bytes::read64;
 pub struct Cursor {
     pub low: u8,
     pub at: usize,
-    pub n: u64,
-    pub e: u64,
-    pub seed: u64,
+    pub head: Head,
     pub label_at: usize,
     pub label_len: usize,
     pub count: usize,
@@ -28,10 +28,8 @@ pub struct Cursor {
 }
 
 // What an image says, but for its entries.
-pub struct Head {
-    pub n: u64,
-    pub e: u64,
-    pub seed: u64,
+pub struct Outline {
+    pub head: Head,
     pub label_at: usize,
     pub label_len: usize,
     pub count: usize,
@@ -39,7 +37,7 @@ pub struct Head {
 
 pub enum Outcome {
     Bad { place: usize },
-    Good { head: Head },
+    Good { outline: Outline },
 }
 
 // Whether a body's content is right, with the least slot that may follow.
@@ -72,8 +70,8 @@ pub fn read(image: &[u8]) -> Outcome
                             if next < image.len() {
                                 return Outcome::Bad { place: next };
                             }
-                            let head = head_of(c);
-                            return Outcome::Good { head };
+                            let outline = outline_of(c);
+                            return Outcome::Good { outline };
                         }
                         c = took(image, c, tag, body, len, floor);
                     }
@@ -85,14 +83,16 @@ pub fn read(image: &[u8]) -> Outcome
 
 // Before the first field.
 fn first_cursor() -> Cursor
-    ensures { λ r. ⌜ r ≡ cursor 1 0 0 0 0 0 0 0 0 ⌝ }
+    ensures { λ r. ⌜ r ≡ cursor 0 0 unnamed 0 0 0 0 ⌝ }
 {
     Cursor {
-        low: 1,
+        low: 0,
         at: 0,
-        n: 0,
-        e: 0,
-        seed: 0,
+        head: Head {
+            n: 0,
+            e: 0,
+            seed: 0,
+        },
         label_at: 0,
         label_len: 0,
         count: 0,
@@ -101,13 +101,12 @@ fn first_cursor() -> Cursor
 }
 
 // What was seen, past the last field.
-fn head_of(c: Cursor) -> Head
-    ensures { λ r. ⌜ r ≡ headIn c ⌝ }
+fn outline_of(c: Cursor) -> Outline
+    ensures { λ r. ⌜ r ≡ outlineIn c ⌝ }
 {
-    Head {
-        n: c.n,
-        e: c.e,
-        seed: c.seed,
+    let head = c.head;
+    Outline {
+        head,
         label_at: c.label_at,
         label_len: c.label_len,
         count: c.count,
@@ -116,10 +115,10 @@ fn head_of(c: Cursor) -> Head
 
 // The content of a body at `at`: only slots and the count can be wrong.
 fn content_at(image: &[u8], c: Cursor, tag: u8, at: usize, len: usize) -> Content
-    requires { ⌜ (at + len ≤ length (now image)) × (rightLength tag len ≡ true) ⌝ }
+    requires { ⌜ (at + len ≤ length (now image)) × (rightLength fields tag len ≡ true) ⌝ }
     ensures { λ r. ⌜ r ≡ contentOf (now (image .entry)) c tag at len ⌝ }
 {
-    let n = c.n;
+    let n = c.head.n;
     let floor = c.floor;
     let count = c.count;
     if tag == 5 {
@@ -159,24 +158,14 @@ fn rise(image: &[u8], n: u64, floor: u64, at: usize, count: usize) -> Content
 
 // The cursor past a field whose body stands at `at`.
 fn took(image: &[u8], c: Cursor, tag: u8, at: usize, len: usize, floor: u64) -> Cursor
-    requires { ⌜ (at + len ≤ length (now image)) × (rightLength tag len ≡ true) × (c .count + len / entrySize < 2 ^ 64) ⌝ }
+    requires { ⌜ (at + len ≤ length (now image)) × (rightLength fields tag len ≡ true) × (c .count + len / entrySize < 2 ^ 64) ⌝ }
     ensures { λ r. ⌜ r ≡ tookOf (now (image .entry)) c tag at len floor ⌝ }
 {
+    let head = named(image, c.head, tag, at, len);
     let mut t = c;
+    t.head = head;
     t.low = low_after(tag, len);
     t.at = at + len;
-    if tag == 1 {
-        t.n = read64(image, at);
-        return t;
-    }
-    if tag == 2 {
-        t.e = read32(image, at);
-        return t;
-    }
-    if tag == 3 {
-        t.seed = read64(image, at);
-        return t;
-    }
     if tag == 4 {
         t.label_at = at;
         t.label_len = len;
@@ -187,4 +176,24 @@ fn took(image: &[u8], c: Cursor, tag: u8, at: usize, len: usize, floor: u64) -> 
         t.floor = floor;
     }
     t
+}
+
+// What names the table, with a body at `at` under a tag.
+fn named(image: &[u8], head: Head, tag: u8, at: usize, len: usize) -> Head
+    requires { ⌜ (at + len ≤ length (now image)) × (rightLength fields tag len ≡ true) ⌝ }
+    ensures { λ r. ⌜ r ≡ toldHead (now (image .entry)) head tag at ⌝ }
+{
+    let mut h = head;
+    if tag == 1 {
+        h.n = read64(image, at);
+        return h;
+    }
+    if tag == 2 {
+        h.e = read32(image, at);
+        return h;
+    }
+    if tag == 3 {
+        h.seed = read64(image, at);
+    }
+    h
 }

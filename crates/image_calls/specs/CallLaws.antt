@@ -21,7 +21,7 @@ use Rattle.image_calls.specs.Calls.{writeGate, writeImageOf, loadings, l
 use Rattle.image.specs.Format.{labelMost}
 use Rattle.image_calls.specs.Loading.{loads, loadOf}
 use Rattle.image.specs.TestLaws.{cases}
-use Rattle.image_writer.specs.Writing.{Writes, writes, writeOf}
+use Rattle.image_writer.specs.Writing.{Writes, writes, headOf, writeOf}
 use Rattle.image_calls.specs.declared.calls.Loaded.{Loaded}
 use Rattle.image_calls.specs.declared.calls.Loaded.the-variants as loaded
 use Rattle.image_calls.specs.declared.loader.Filled.{Filled}
@@ -82,7 +82,7 @@ module _ (table : FunnelTable) (counts words flags label out : List ℕ) where
   write-refused g h = rw h
 
   pub write-passed : writeGate table counts (length words) (length flags) (length label) ≡ Passed
-      → (w : Writes) → w ≡ writeOf (table .n) (table .e) (table .seed) label words flags out → w ≡ writeImageOf table counts words flags label out
+      → (w : Writes) → w ≡ writeOf (headOf table) label words flags out → w ≡ writeImageOf table counts words flags label out
   unfolding writeImageOf
   write-passed h w e = e ∙ rw h
 
@@ -92,7 +92,7 @@ module _ (table : FunnelTable) (counts words flags image : List ℕ) where
   load-refused g h = rw h
 
   pub load-passed : tableGate table counts (length words) (length flags) ≡ Passed
-      → (r : Loaded) (f : Filled) (words' flags' : List ℕ) → r ≡ loadedOf table f → loads f words' flags' ≡ loadOf (table .n) (table .e) (table .seed) words flags image
+      → (r : Loaded) (f : Filled) (words' flags' : List ℕ) → r ≡ loadedOf table f → loads f words' flags' ≡ loadOf (headOf table) words flags image
       → loadings r words' flags' ≡ loadImageOf table counts words flags image
   unfolding loadImageOf
   load-passed h r f words' flags' a e = rw (h, ← e, a)

@@ -16,7 +16,7 @@ use Rattle.funnel.specs.Insert.{withCount}
 use Rattle.funnel.specs.declared.table.FunnelTable.{FunnelTable}
 use Rattle.image.specs.Format.{labelMost}
 use Rattle.image_calls.specs.Loading.{Loads, loadOf}
-use Rattle.image_writer.specs.Writing.{Writes, writes, writeOf}
+use Rattle.image_writer.specs.Writing.{Writes, writes, headOf, writeOf}
 use Rattle.image_calls.specs.declared.calls.Loaded.{Loaded}
 use Rattle.image_calls.specs.declared.calls.Loaded.the-variants as loaded
 use Rattle.image_calls.specs.declared.loader.Filled.{Filled}
@@ -43,7 +43,7 @@ writeBy Passed out w = w
 
 unfoldable pub writeImageOf : FunnelTable → (counts words flags label out : List ℕ) → Writes
 writeImageOf table counts words flags label out =
-    writeBy (writeGate table counts (length words) (length flags) (length label)) out (writeOf (table .n) (table .e) (table .seed) label words flags out)
+    writeBy (writeGate table counts (length words) (length flags) (length label)) out (writeOf (headOf table) label words flags out)
 
 -- ---- the loader
 
@@ -69,7 +69,7 @@ loadBy Passed table words flags l = loadings (loadedOf table (l .answer)) (l .wo
 
 unfoldable pub loadImageOf : FunnelTable → (counts words flags image : List ℕ) → Loadings
 loadImageOf table counts words flags image =
-    loadBy (tableGate table counts (length words) (length flags)) table words flags (loadOf (table .n) (table .e) (table .seed) words flags image)
+    loadBy (tableGate table counts (length words) (length flags)) table words flags (loadOf (headOf table) words flags image)
 
 -- ---- what they report: this paper's number, 0 where there is none, and the values
 

@@ -37,7 +37,7 @@ entriesIn (good s) = s .entries
 
 abbrev pub slotsIn : Reading → ℕ
 slotsIn (bad p) = 0
-slotsIn (good s) = s .n
+slotsIn (good s) = s .head .n
 
 abbrev pub isGood : Reading → Bool
 isGood (bad p) = false

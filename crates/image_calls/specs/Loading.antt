@@ -1,11 +1,11 @@
 -- What the loader answers, and what it leaves in words and flags. Assumes nothing.
-use mathlib.Core.Bool.{Bool, false}
 use mathlib.Core.List.{List}
 use Prim.Native.Nat.{ℕ}
 use lib.ListN.{length, replicate}
-use lib.Dec.{eqb}
 use Rattle.words.specs.Pick.{pick}
 use Rattle.image_calls.specs.Fill.{fillWords, fillFlags}
+use Rattle.image.specs.Head.{sameHead}
+use Rattle.image.specs.declared.head.Head.{Head}
 use Rattle.image.specs.Reading.{Seen, Reading, bad, good, readOf}
 use Rattle.image_calls.specs.declared.loader.Filled.{Filled}
 use Rattle.image_calls.specs.declared.loader.Filled.the-variants as filled
@@ -19,19 +19,15 @@ pub record Loads : Type 0 where
 abbrev pub loads : Filled → List ℕ → List ℕ → Loads
 loads a words flags = record { answer = a; words = words; flags = flags }
 
--- FOREIGN: "image's n, e or seed not the table's"
-unfoldable pub ofTable : ℕ → ℕ → ℕ → (n' e' seed' : ℕ) → Bool
-ofTable n e seed n' e' seed' = pick (eqb n' n) (pick (eqb e' e) (eqb seed' seed) false) false
-
 -- "The loader zeroes, fills, sets the count from 6, and answers the offset and length of the label's body, two zeros if there is none."
 unfoldable pub loadGood : List ℕ → List ℕ → Seen → Loads
 loadGood words flags s =
     loads (filled.Done (length (s .entries)) (s .labelAt) (s .labelLen)) (fillWords (replicate (length words) 0) (s .entries)) (fillFlags (replicate (length flags) 0) (s .entries))
 
 -- "Loader: 24, 25"
-unfoldable pub loadAfter : ℕ → ℕ → ℕ → List ℕ → List ℕ → Reading → Loads
-loadAfter n e seed words flags (bad place) = loads (filled.Image place) words flags
-loadAfter n e seed words flags (good s) = pick (ofTable n e seed (s .n) (s .e) (s .seed)) (loadGood words flags s) (loads filled.Foreign words flags)
+unfoldable pub loadAfter : Head → List ℕ → List ℕ → Reading → Loads
+loadAfter hd words flags (bad place) = loads (filled.Image place) words flags
+loadAfter hd words flags (good s) = pick (sameHead (s .head) hd) (loadGood words flags s) (loads filled.Foreign words flags)
 
-unfoldable pub loadOf : ℕ → ℕ → ℕ → List ℕ → List ℕ → List ℕ → Loads
-loadOf n e seed words flags image = loadAfter n e seed words flags (readOf image)
+unfoldable pub loadOf : Head → (words flags image : List ℕ) → Loads
+loadOf hd words flags image = loadAfter hd words flags (readOf image)

@@ -7,25 +7,28 @@ use native.Mathlib.Omega.{arith}
 use lib.ListN.{length, replicate}
 use lib.Dec.{eqb}
 use borrow.Author.Tests.{eqb-true}
-use Rattle.image.specs.Cursor.{headOf, outcomeOf}
+use Rattle.image.specs.Cursor.{outlineOf, outcomeOf}
 use Rattle.image_calls.specs.Fill.{fillWords, fillFlags, entriesIn, slotsIn, isGood, Fills, Fits}
 use Rattle.image_calls.specs.FillLaws.{fill-words-append, fill-flags-append, length-fill-words, length-fill-flags}
-use Rattle.image.specs.Format.{entrySize}
-use Rattle.image.specs.FrameLaws.{Framing, framing, right-most}
-use Rattle.image_calls.specs.Loading.{loads, ofTable, loadGood, loadAfter, loadOf}
+use Rattle.image.specs.Format.{entrySize, fields}
+use Rattle.image.specs.FrameLaws.{Framing, framing}
+use Rattle.image.specs.Head.{unnamed, sameHead}
+use Rattle.image.specs.KindLaws.{low-past}
+use Rattle.image_calls.specs.Loading.{loads, loadGood, loadAfter, loadOf}
 use Rattle.image.specs.Reading.{lowAfter, frameOf, entriesAt, floorAfter, Seen, seen, told, rightContent, Reading, bad, good, readFrom, readOf}
-use Rattle.image.specs.ReadingLaws.{good-wrong, good-content, good-next, good-last, good-n, low-least, told-n, told-five, told-other}
+use Rattle.image.specs.ReadingLaws.{good-wrong, good-content, good-next, good-last, good-n, told-n, told-five, told-other}
 use Rattle.image.specs.TestLaws.{cases, not-both}
 use Rattle.image.specs.declared.field.Framed.the-variants.{Wrong, Field}
 use Rattle.image_calls.specs.declared.loader.Filled.the-variants as filled
-use Rattle.image.specs.declared.reader.Head.{Head}
+use Rattle.image.specs.declared.head.Head.{Head}
+use Rattle.image.specs.declared.reader.Outline.{Outline}
 use Rattle.image.specs.declared.reader.Outcome.the-variants.{Bad, Good}
 
 -- what a reading with this head is
-record GoodAs (h : Head) (r : Reading) : Type 0 where
+record GoodAs (h : Outline) (r : Reading) : Type 0 where
   s : Seen
   is : r ≡ good s
-  head : headOf s ≡ h
+  outline : outlineOf s ≡ h
 
 -- on the way through a right image
 pub record Onward (b words₀ flags₀ : List ℕ) (low at : ℕ) (words flags : List ℕ) : Type 0 where
@@ -37,28 +40,28 @@ pub record Onward (b words₀ flags₀ : List ℕ) (low at : ℕ) (words flags :
   pub within : at ≤ length b
   pub wordsAre : words ≡ fillWords words₀ (s .entries)
   pub flagsAre : flags ≡ fillFlags flags₀ (s .entries)
-  pub inWords : g .n ≤ length words₀
-  pub inFlags : g .n ≤ length flags₀
+  pub inWords : g .head .n ≤ length words₀
+  pub inFlags : g .head .n ≤ length flags₀
 
-pub onward-none : (b words flags : List ℕ) → isGood (readOf b) ≡ true → slotsIn (readOf b) ≤ length words → slotsIn (readOf b) ≤ length flags → Onward b words flags 1 0 words flags
+pub onward-none : (b words flags : List ℕ) → isGood (readOf b) ≡ true → slotsIn (readOf b) ≤ length words → slotsIn (readOf b) ≤ length flags → Onward b words flags 0 0 words flags
 unfolding fillWords fillFlags readOf
 onward-none b words flags h w f = go (readOf b) refl h w f
   where
-    go : (r : Reading) → readOf b ≡ r → isGood r ≡ true → slotsIn r ≤ length words → slotsIn r ≤ length flags → Onward b words flags 1 0 words flags
+    go : (r : Reading) → readOf b ≡ r → isGood r ≡ true → slotsIn r ≤ length words → slotsIn r ≤ length flags → Onward b words flags 0 0 words flags
     go (bad p) e h w f = let z : _≡_ {A = ℕ} 0 1 = cc in absurd (omega arith)
     go (good g) e h w f =
-        record { g = g; s = seen 0 0 0 0 0 []; fuel = suc (length b); whole = e; left = e; within = omega arith; wordsAre = refl; flagsAre = refl; inWords = w; inFlags = f }
+        record { g = g; s = seen unnamed 0 0 []; fuel = suc (length b); whole = e; left = e; within = omega arith; wordsAre = refl; flagsAre = refl; inWords = w; inFlags = f }
 
 module _ {b words₀ flags₀ : List ℕ} {low at : ℕ} {words flags : List ℕ} (l : Onward b words₀ flags₀ low at words flags) where
-  pub onward-wrong : {P : Type 0} (p : ℕ) → frameOf b low at ≡ Wrong p → P
+  pub onward-wrong : {P : Type 0} (p : ℕ) → frameOf fields b low at ≡ Wrong p → P
   onward-wrong p w = good-wrong b (l .s) (l .g) low at (l .fuel) p (l .left) w
 
   pub onward-sizes : (length words ≡ length words₀) × (length flags ≡ length flags₀)
   onward-sizes = (rw (l .wordsAre) (length-fill-words words₀ (l .s .entries)), rw (l .flagsAre) (length-fill-flags flags₀ (l .s .entries)))
 
-  module _ (tag len : ℕ) (w : frameOf b low at ≡ Field tag len) where
-    pub onward-framing : Framing b low at tag len
-    onward-framing = framing b low at tag len w
+  module _ (tag len : ℕ) (w : frameOf fields b low at ≡ Field tag len) where
+    pub onward-framing : Framing fields b low at tag len
+    onward-framing = framing fields b low at tag len w
 
     pub onward-last : tag ≡ 6 → Fills words₀ flags₀ (entriesIn (readOf b)) words flags
     onward-last t =
@@ -66,11 +69,11 @@ module _ {b words₀ flags₀ : List ℕ} {low at : ℕ} {words flags : List ℕ
         rw (l .whole, e) (record { words-are = l .wordsAre; flags-are = l .flagsAre })
 
     module _ (n : tag ≡ 6 → ⊥) where
-      next : readFrom b (l .fuel - 1) (told b (l .s) tag (at + 3) len) (lowAfter tag len) (at + 3 + len) ≡ good (l .g)
+      next : readFrom b (l .fuel - 1) (told b (l .s) tag (at + 3) len) (lowAfter fields tag len) (at + 3 + len) ≡ good (l .g)
       next = good-next b (l .s) (l .g) low at tag len w (l .fuel) (l .left) n
 
       onto-next : (words' flags' : List ℕ) → words' ≡ fillWords words₀ (told b (l .s) tag (at + 3) len .entries) → flags' ≡ fillFlags flags₀ (told b (l .s) tag (at + 3) len .entries)
-          → Onward b words₀ flags₀ (lowAfter tag len) (at + 3 + len) words' flags'
+          → Onward b words₀ flags₀ (lowAfter fields tag len) (at + 3 + len) words' flags'
       onto-next words' flags' p q =
           record {
             g = l .g;
@@ -93,16 +96,17 @@ module _ {b words₀ flags₀ : List ℕ} {low at : ℕ} {words flags : List ℕ
           let c : rightContent b (l .s) 5 (at + 3) len ≡ true = rw t at (good-content b (l .s) (l .g) low at tag len w (l .fuel) (l .left)) in
           let i = l .inWords in
           let j = l .inFlags in
-          let d = low-least tag len (right-most low tag (onward-framing .okTag)) in
-          let e : l .g .n ≡ l .s .n = good-n b (l .fuel - 1) (told b (l .s) tag (at + 3) len) (l .g) (lowAfter tag len) (at + 3 + len) (omega arith) next ∙ told-n b (l .s) tag (at + 3) len (omega arith) in
-          record { n = l .s .n; floor = floorAfter 0 (l .s .entries); rise = c; inWords = omega arith; inFlags = omega arith }
+          let m : tag ≡ 1 → ⊥ = λ e. omega arith in
+          let e : l .g .head .n ≡ l .s .head .n =
+          good-n b (l .fuel - 1) (told b (l .s) tag (at + 3) len) (l .g) (lowAfter fields tag len) (at + 3 + len) (low-past tag len m) next ∙ told-n b (l .s) tag (at + 3) len m in
+          record { n = l .s .head .n; floor = floorAfter 0 (l .s .entries); rise = c; inWords = omega arith; inFlags = omega arith }
 
-      pub onward-five : tag ≡ 5 → (words' flags' : List ℕ) → Fills words flags (entriesAt b (at + 3) (len / entrySize)) words' flags' → Onward b words₀ flags₀ (lowAfter tag len) (at + 3 + len) words' flags'
+      pub onward-five : tag ≡ 5 → (words' flags' : List ℕ) → Fills words flags (entriesAt b (at + 3) (len / entrySize)) words' flags' → Onward b words₀ flags₀ (lowAfter fields tag len) (at + 3 + len) words' flags'
       onward-five t words' flags' f =
           let e = told-five b (l .s) tag (at + 3) len t in
           onto-next words' flags' (f .words-are ∙ rw (l .wordsAre, e, fill-words-append)) (f .flags-are ∙ rw (l .flagsAre, e, fill-flags-append))
 
-      pub onward-other : (tag ≡ 5 → ⊥) → Onward b words₀ flags₀ (lowAfter tag len) (at + 3 + len) words flags
+      pub onward-other : (tag ≡ 5 → ⊥) → Onward b words₀ flags₀ (lowAfter fields tag len) (at + 3 + len) words flags
       onward-other m =
           let e = told-other b (l .s) tag (at + 3) len m in
           onto-next words flags (rw e (l .wordsAre)) (rw e (l .flagsAre))
@@ -110,44 +114,46 @@ module _ {b words₀ flags₀ : List ℕ} {low at : ℕ} {words flags : List ℕ
 -- ---- the outcomes
 
 -- a right image with this head
-module _ (image : List ℕ) (h : Head) (r : outcomeOf (readOf image) ≡ Good h) where
+module _ (image : List ℕ) (h : Outline) (r : outcomeOf (readOf image) ≡ Good h) where
   what-good : GoodAs h (readOf image)
   what-good = go (readOf image) r
     where
       go : (x : Reading) → outcomeOf x ≡ Good h → GoodAs h x
       go (bad p) k = let z : _≡_ {A = ℕ} 0 1 = cc in absurd (omega arith)
-      go (good s) k = record { s = s; is = refl; head = (let q : headOf s ≡ h = cc in q) }
+      go (good s) k = record { s = s; is = refl; outline = (let q : outlineOf s ≡ h = cc in q) }
 
   pub good-is : isGood (readOf image) ≡ true
   good-is = rw (what-good .is)
 
-  pub slots-are : (n e seed : ℕ) → ofTable n e seed (h .n) (h .e) (h .seed) ≡ true → slotsIn (readOf image) ≡ n
-  unfolding ofTable
-  slots-are n e seed o =
+  pub slots-are : (hd : Head) → sameHead (h .head) hd ≡ true → slotsIn (readOf image) ≡ hd .n
+  unfolding sameHead
+  slots-are hd o =
       let g = what-good in
-      rw (g .is) (ap (λ (x : Head). x .n) (g .head) ∙ cases (eqb (h .n) n) (λ t. eqb-true _ _ t) (λ f. let z : false ≡ true = rw f at o in not-both (sym z)))
+      rw (g .is)
+      (ap (λ (x : Outline). x .head .n) (g .outline)
+      ∙ cases (eqb (h .head .n) (hd .n)) (λ t. eqb-true _ _ t) (λ f. let z : false ≡ true = rw f at o in not-both (sym z)))
 
-module _ (n e seed : ℕ) (words flags image : List ℕ) where
-  pub loads-bad : (place : ℕ) → outcomeOf (readOf image) ≡ Bad place → loads (filled.Image place) words flags ≡ loadOf n e seed words flags image
+module _ (hd : Head) (words flags image : List ℕ) where
+  pub loads-bad : (place : ℕ) → outcomeOf (readOf image) ≡ Bad place → loads (filled.Image place) words flags ≡ loadOf hd words flags image
   unfolding loadOf loadAfter
   loads-bad place h = go (readOf image) h
     where
-      go : (r : Reading) → outcomeOf r ≡ Bad place → loads (filled.Image place) words flags ≡ loadAfter n e seed words flags r
+      go : (r : Reading) → outcomeOf r ≡ Bad place → loads (filled.Image place) words flags ≡ loadAfter hd words flags r
       go (bad p) h = let q : p ≡ place = cc in rw q
       go (good s) h = let z : _≡_ {A = ℕ} 0 1 = cc in absurd (omega arith)
 
-  module _ (h : Head) (r : outcomeOf (readOf image) ≡ Good h) where
-    pub loads-foreign : ofTable n e seed (h .n) (h .e) (h .seed) ≡ false → loads filled.Foreign words flags ≡ loadOf n e seed words flags image
+  module _ (h : Outline) (r : outcomeOf (readOf image) ≡ Good h) where
+    pub loads-foreign : sameHead (h .head) hd ≡ false → loads filled.Foreign words flags ≡ loadOf hd words flags image
     unfolding loadOf loadAfter
-    loads-foreign f = let g = what-good image h r in let k = rw (← g .head) at f in rw (g .is, k)
+    loads-foreign f = let g = what-good image h r in let k = rw (← g .outline) at f in rw (g .is, k)
 
-    pub loads-done : ofTable n e seed (h .n) (h .e) (h .seed) ≡ true → (words' flags' : List ℕ)
+    pub loads-done : sameHead (h .head) hd ≡ true → (words' flags' : List ℕ)
         → Fills (replicate (length words) 0) (replicate (length flags) 0) (entriesIn (readOf image)) words' flags'
-        → loads (filled.Done (h .count) (h .«label_at») (h .«label_len»)) words' flags' ≡ loadOf n e seed words flags image
+        → loads (filled.Done (h .count) (h .«label_at») (h .«label_len»)) words' flags' ≡ loadOf hd words flags image
     unfolding loadOf loadAfter loadGood
     loads-done o words' flags' f = go (readOf image) r f
       where
         go : (x : Reading) → outcomeOf x ≡ Good h → Fills (replicate (length words) 0) (replicate (length flags) 0) (entriesIn x) words' flags'
-            → loads (filled.Done (h .count) (h .«label_at») (h .«label_len»)) words' flags' ≡ loadAfter n e seed words flags x
+            → loads (filled.Done (h .count) (h .«label_at») (h .«label_len»)) words' flags' ≡ loadAfter hd words flags x
         go (bad p) k f = let z : _≡_ {A = ℕ} 0 1 = cc in absurd (omega arith)
-        go (good s) k f = let q : headOf s ≡ h = cc in let d = rw (← q) at o in rw (f .words-are, f .flags-are, ← q, d)
+        go (good s) k f = let q : outlineOf s ≡ h = cc in let d = rw (← q) at o in rw (f .words-are, f .flags-are, ← q, d)

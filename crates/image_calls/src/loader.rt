@@ -6,16 +6,18 @@ ghost use lib.ListN.{length, replicate};
 ghost use Rattle.image.specs.Format.{entrySize};
 ghost use Rattle.image.specs.Reading.{entriesAt, readOf};
 ghost use Rattle.image_calls.specs.Fill.{isGood, slotsIn, entriesIn, Fills, Fits};
-ghost use Rattle.image_calls.specs.Loading.{ofTable, loads, loadOf};
+ghost use Rattle.image_calls.specs.Loading.{loads, loadOf};
+ghost use Rattle.image_writer.specs.Writing.{headOf};
 ghost use Rattle.lent.specs.Lent.{wordsIn};
 use funnel::table::FunnelTable;
 use image::field::ENTRY_SIZE;
 use image::field::Framed;
 use image::field::frame;
 use image::field::low_after;
-use image::reader::Head;
+use image::head::same;
 use image::reader::Outcome;
 use image::reader::read;
+use image_writer::writer::head_of;
 use lent::store::put_word;
 use words::bytes::read64;
 use words::clear::clear_bytes;
@@ -44,28 +46,25 @@ pub fn load(
     bytes: bool,
 ) -> Filled
     requires { ⌜ (length (wordsIn bytes (now words) (now lent)) ≡ table .n) × (length (now flags) ≡ table .n) ⌝ }
-    ensures { λ r. ⌜ loads r (wordsIn bytes (now (words .exit)) (now (lent .exit))) (now (flags .exit)) ≡ loadOf (table .n) (table .e) (table .seed) (wordsIn bytes (now (words .entry)) (now (lent .entry))) (now (flags .entry)) (now (image .entry)) ⌝ }
+    ensures { λ r. ⌜ loads r (wordsIn bytes (now (words .exit)) (now (lent .exit))) (now (flags .exit)) ≡ loadOf (headOf table) (wordsIn bytes (now (words .entry)) (now (lent .entry))) (now (flags .entry)) (now (image .entry)) ⌝ }
 {
-    let n = table.n;
-    let e = table.e as u64;
-    let seed = table.seed;
     match read(image) {
         Outcome::Bad { place } => {
             return Filled::Image {
                 place: place as u64,
             };
         }
-        Outcome::Good { head } => {
-            if !own(n, e, seed, head) {
+        Outcome::Good { outline } => {
+            if !same(outline.head, head_of(table)) {
                 return Filled::Foreign;
             }
             clear_lent(bytes, words, lent);
             clear_bytes(flags);
             fill_image(image, words, flags, lent, bytes);
             return Filled::Done {
-                count: head.count as u64,
-                label_at: head.label_at as u64,
-                label_len: head.label_len as u64,
+                count: outline.count as u64,
+                label_at: outline.label_at as u64,
+                label_len: outline.label_len as u64,
             };
         }
     }
@@ -82,25 +81,13 @@ fn clear_lent(bytes: bool, words: &mut [u64], lent: &mut [u8])
     clear_words(words);
 }
 
-// Whether an image is of the table (n, e, seed).
-pub fn own(n: u64, e: u64, seed: u64, head: Head) -> bool
-    ensures { λ r. ⌜ r ≡ ofTable n e seed (head .n) (head .e) (head .seed) ⌝ }
-{
-    if head.n == n {
-        if head.e == e {
-            return head.seed == seed;
-        }
-    }
-    false
-}
-
 // Both buffers hold the entries of a right image besides what they held. A right image has no wrong field, so nothing is
 // tested again.
 fn fill_image(image: &[u8], words: &mut [u64], flags: &mut [u8], lent: &mut [u8], bytes: bool)
     requires { ⌜ (isGood (readOf (now image)) ≡ true) × (slotsIn (readOf (now image)) ≤ length (wordsIn bytes (now words) (now lent))) × (slotsIn (readOf (now image)) ≤ length (now flags)) ⌝ }
     ensures { λ r. ⌜ Fills (wordsIn bytes (now (words .entry)) (now (lent .entry))) (now (flags .entry)) (entriesIn (readOf (now (image .entry)))) (wordsIn bytes (now (words .exit)) (now (lent .exit))) (now (flags .exit)) ⌝ }
 {
-    let mut low: u8 = 1;
+    let mut low: u8 = 0;
     let mut at: usize = 0;
     loop {
         match frame(image, low, at) {

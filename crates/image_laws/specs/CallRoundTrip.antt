@@ -19,7 +19,7 @@ use Rattle.image_calls.specs.FillLaws.{length-fill-words, length-fill-flags}
 use Rattle.image.specs.Format.{labelMost, entriesOf}
 use Rattle.image_calls.specs.Loading.{Loads, loads, loadOf}
 use Rattle.image.specs.Reading.{rising}
-use Rattle.image_writer.specs.Writing.{Writes, writes, onto, writeOf}
+use Rattle.image_writer.specs.Writing.{Writes, writes, onto, headOf, writeOf}
 use Rattle.image_calls.specs.declared.calls.Loaded.the-variants as loaded
 use Rattle.image_calls.specs.declared.loader.Filled.{Filled}
 use Rattle.image_calls.specs.declared.loader.Filled.the-variants as filled
@@ -34,7 +34,7 @@ use Rattle.image_laws.specs.WriteAfterRead.{Image, write-after-read}
 -- a written image passed the writer's gate
 record Wrote (table : FunnelTable) (counts words flags label out : List ℕ) (len : ℕ) (out' : List ℕ) : Type 0 where
   able : Writable table counts words flags label
-  is : writeOf (table .n) (table .e) (table .seed) label words flags out ≡ writes (written.Done len) out'
+  is : writeOf (headOf table) label words flags out ≡ writes (written.Done len) out'
 
 wrote-of : (table : FunnelTable) (counts words flags label out : List ℕ) (len : ℕ) (out' : List ℕ) → writeImageOf table counts words flags label out ≡ writes (written.Done len) out'
     → Wrote table counts words flags label out len out'
@@ -42,13 +42,13 @@ unfolding writeImageOf
 wrote-of table counts words flags label out len out' h = go (writeGate table counts (length words) (length flags) (length label)) refl h
   where
     go : (g : Gated) → writeGate table counts (length words) (length flags) (length label) ≡ g
-        → writeBy g out (writeOf (table .n) (table .e) (table .seed) label words flags out) ≡ writes (written.Done len) out' → Wrote table counts words flags label out len out'
+        → writeBy g out (writeOf (headOf table) label words flags out) ≡ writes (written.Done len) out' → Wrote table counts words flags label out len out'
     go (Refused x) e h = let q : written.Gate x ≡ written.Done len = ap (λ (w : Writes). w .answer) h in let z : _≡_ {A = ℕ} 0 1 = cc in absurd (omega arith)
     go Passed e h = record { able = gate-writable table counts words flags label e; is = h }
 
 -- an image that `write_image` wrote of a table, `load_image` loads back into any buffers of its length: the same words and flags, the
 -- number of occupied slots as the count, and the label's place
-pub load-image-after-write-image : (table : FunnelTable) (counts words flags label out : List ℕ) → Machine (table .n) (table .e) (table .seed) words
+pub load-image-after-write-image : (table : FunnelTable) (counts words flags label out : List ℕ) → Machine (headOf table) words
     → (len : ℕ) (out' : List ℕ) → writeImageOf table counts words flags label out ≡ writes (written.Done len) out'
     → (words₀ flags₀ : List ℕ) → length words₀ ≡ table .n → length flags₀ ≡ table .n
     → loadImageOf table counts words₀ flags₀ (take len out') ≡ loadings (loaded.Done (withCount table (length (entriesOf words flags))) (labelPlace label) (length label)) words flags
@@ -58,7 +58,7 @@ load-image-after-write-image table counts words flags label out m len out' h wor
     let v = w .able .valid in
     let v₀ : Valid table counts words₀ flags₀ =
     record { planned = v .planned; cap-least = v .cap-least; cap-most = v .cap-most; words-length = lw; flags-length = lf; counted = v .counted } in
-    let l = load-after-write (table .n) (table .e) (table .seed) label words flags m (v .words-length) (v .flags-length) (w .able .short) out len out' (w .is) words₀ flags₀ lw lf in
+    let l = load-after-write (headOf table) label words flags m (v .words-length) (v .flags-length) (w .able .short) out len out' (w .is) words₀ flags₀ lw lf in
     rw (valid-gate v₀, l)
 
 -- ---- whatever the loader accepts, the writer writes again
@@ -68,7 +68,7 @@ record LoadedIn (table : FunnelTable) (counts words flags image : List ℕ) (tab
   valid : Valid table counts words flags
   count : ℕ
   table-is : table' ≡ withCount table count
-  is : loadOf (table .n) (table .e) (table .seed) words flags image ≡ loads (filled.Done count labelAt labelLen) words' flags'
+  is : loadOf (headOf table) words flags image ≡ loads (filled.Done count labelAt labelLen) words' flags'
 
 loaded-in : (table : FunnelTable) (counts words flags image : List ℕ) (table' : FunnelTable) (labelAt labelLen : ℕ) (words' flags' : List ℕ)
     → loadImageOf table counts words flags image ≡ loadings (loaded.Done table' labelAt labelLen) words' flags' → LoadedIn table counts words flags image table' labelAt labelLen words' flags'
@@ -76,7 +76,7 @@ unfolding loadImageOf loadedOf
 loaded-in table counts words flags image table' la ll words' flags' h =
     gated (tableGate table counts (length words) (length flags)) refl h
   where
-    got : (l : Loads) → loadOf (table .n) (table .e) (table .seed) words flags image ≡ l → tableGate table counts (length words) (length flags) ≡ Passed
+    got : (l : Loads) → loadOf (headOf table) words flags image ≡ l → tableGate table counts (length words) (length flags) ≡ Passed
         → (f : Filled) → l .answer ≡ f → loadings (loadedOf table f) (l .words) (l .flags) ≡ loadings (loaded.Done table' la ll) words' flags' → LoadedIn table counts words flags image table' la ll words' flags'
     got l e p (filled.Image x) a h = let q : loaded.Image x ≡ loaded.Done table' la ll = ap (λ (w : Loadings). w .answer) h in let z : _≡_ {A = ℕ} 0 1 = cc in absurd (omega arith)
     got l e p filled.Foreign a h = let q : loaded.Foreign ≡ loaded.Done table' la ll = ap (λ (w : Loadings). w .answer) h in let z : _≡_ {A = ℕ} 0 1 = cc in absurd (omega arith)
@@ -91,15 +91,15 @@ loaded-in table counts words flags image table' la ll words' flags' h =
         record { valid = gate-valid table counts words flags p; count = c; table-is = sym t; is = e ∙ s ∙ rw (i, j) }
 
     gated : (g : Gated) → tableGate table counts (length words) (length flags) ≡ g
-        → loadBy g table words flags (loadOf (table .n) (table .e) (table .seed) words flags image) ≡ loadings (loaded.Done table' la ll) words' flags' → LoadedIn table counts words flags image table' la ll words' flags'
+        → loadBy g table words flags (loadOf (headOf table) words flags image) ≡ loadings (loaded.Done table' la ll) words' flags' → LoadedIn table counts words flags image table' la ll words' flags'
     gated (Refused x) e h = let q : loaded.Gate x ≡ loaded.Done table' la ll = ap (λ (w : Loadings). w .answer) h in let z : _≡_ {A = ℕ} 0 1 = cc in absurd (omega arith)
-    gated Passed e h = got (loadOf (table .n) (table .e) (table .seed) words flags image) refl e (loadOf (table .n) (table .e) (table .seed) words flags image .answer) refl h
+    gated Passed e h = got (loadOf (headOf table) words flags image) refl e (loadOf (headOf table) words flags image .answer) refl h
 
 -- the table that was loaded passes the writer's gate with the image's own label
 module _ (table : FunnelTable) (counts words flags image : List ℕ) (B : Bytes image) (v : Valid table counts words flags) (count la ll : ℕ) (words' flags' : List ℕ)
-    (h : loadOf (table .n) (table .e) (table .seed) words flags image ≡ loads (filled.Done count la ll) words' flags') where
-  all : LoadedAll (table .n) (table .e) (table .seed) words flags image count la ll words' flags'
-  all = loaded-all (table .n) (table .e) (table .seed) words flags image count la ll words' flags' h
+    (h : loadOf (headOf table) words flags image ≡ loads (filled.Done count la ll) words' flags') where
+  all : LoadedAll (headOf table) words flags image count la ll words' flags'
+  all = loaded-all (headOf table) words flags image count la ll words' flags' h
 
   label-short : length (take ll (drop la image)) ≤ labelMost
   label-short =
@@ -110,7 +110,7 @@ module _ (table : FunnelTable) (counts words flags image : List ℕ) (B : Bytes 
   count-most : count ≤ table .n
   count-most =
       let i = write-after-read image B (all .s) (all .read) .rise in
-      let r : rising (table .n) 0 (all .s .entries) ≡ true = rw (all .n-is) at i in
+      let r : rising (table .n) 0 (all .s .entries) ≡ true = rw (all .named) at i in
       let f = rising-few (table .n) 0 (all .s .entries) r (omega arith) in
       let e = all .count-is in
       omega arith
@@ -141,10 +141,10 @@ write-image-after-load-image table counts words flags image B table' la ll words
     let l = loaded-in table counts words flags image table' la ll words' flags' h in
     let v = l .valid in
     let g = loaded-gate table counts words flags image B v (l .count) la ll words' flags' (l .is) in
-    let w = write-after-load (table .n) (table .e) (table .seed) words flags image B (v .words-length) (v .flags-length) (l .count) la ll words' flags' (l .is) out room in
+    let w = write-after-load (headOf table) words flags image B (v .words-length) (v .flags-length) (l .count) la ll words' flags' (l .is) out room in
     again (l .count) table' (l .table-is) g w
   where
     again : (c : ℕ) (t : FunnelTable) → t ≡ withCount table c → writeGate (withCount table c) counts (length words') (length flags') (length (take ll (drop la image))) ≡ Passed
-        → writeOf (table .n) (table .e) (table .seed) (take ll (drop la image)) words' flags' out ≡ writes (written.Done (length image)) (onto image out)
-        → writeBy (writeGate t counts (length words') (length flags') (length (take ll (drop la image)))) out (writeOf (t .n) (t .e) (t .seed) (take ll (drop la image)) words' flags' out) ≡ writes (written.Done (length image)) (onto image out)
+        → writeOf (headOf table) (take ll (drop la image)) words' flags' out ≡ writes (written.Done (length image)) (onto image out)
+        → writeBy (writeGate t counts (length words') (length flags') (length (take ll (drop la image)))) out (writeOf (headOf t) (take ll (drop la image)) words' flags' out) ≡ writes (written.Done (length image)) (onto image out)
     again c t e g w = rw (e, g, w)

@@ -12,15 +12,18 @@ use borrow.Author.Tests.{le-ltb, le-leb, eq-eqb, eqb-false}
 use Rattle.words.specs.Pick.{pick}
 use Rattle.words.specs.Bytes.{bytesOf, numAt}
 use Rattle.words.specs.BytesLaws.{num-bytes, length-bytes}
-use Rattle.image.specs.Format.{entrySize, fieldEntries, fieldBytes, Entry, bodyOf, fieldOf, labelField, entryFields, fieldsFor, imageOf}
-use Rattle.image.specs.Reading.{rankOf, rightTag, rightLength, lowAfter, frameOf, entriesAt, rising, floorAfter, Seen, seen, told, rightContent, good, endOf, fieldThen, readFrom, readOf}
-use Rattle.image.specs.FrameLaws.{frame-field, right-is}
+use Rattle.image.specs.Format.{entrySize, fieldEntries, fieldBytes, kind, fields, Entry, bodyOf, fieldOf, labelField, entryFields, fieldsFor, imageOf}
+use Rattle.image.specs.Head.{headed, unnamed}
+use Rattle.image.specs.KindLaws.{fits-is}
+use Rattle.image.specs.Reading.{rankOf, mayCome, rightTag, kindAt, fits, rightLength, lowBehind, lowAfter, frameOf, entriesAt, rising, floorAfter, Seen, seen, toldHead, told, rightContent, good, endOf, fieldThen, readFrom, readOf}
+use Rattle.image.specs.FrameLaws.{frame-field}
 use Rattle.image.specs.CursorLaws.{floor-append}
 use Rattle.image.specs.TestLaws.{cases}
 use Rattle.image_writer.specs.EntryFieldLaws.{length-body}
 use Rattle.image_writer.specs.ImageLaws.{length-field}
 use Rattle.image_laws.specs.WriteAfterRead.{plus, plus-none}
 use Rattle.image.specs.declared.field.Framed.the-variants.{Field}
+use Rattle.image.specs.declared.head.Head.{Head}
 
 -- ---- what stands at an offset
 
@@ -73,17 +76,17 @@ module _ (b : List ℕ) (at tag : ℕ) (body r : List ℕ) (d : drop at b ≡ fi
       let w = past-within b at (3 + length body) (fieldOf tag body) r l (omega arith) d in
       omega arith
 
-  frame-is : (low : ℕ) → rightTag low tag ≡ true → rightLength tag (length body) ≡ true → length body < 65536 → frameOf b low at ≡ Field tag (length body)
+  frame-is : (low : ℕ) → rightTag fields low tag ≡ true → rightLength fields tag (length body) ≡ true → length body < 65536 → frameOf fields b low at ≡ Field tag (length body)
   frame-is low t l s =
       let z : at + 0 ≡ at = omega arith in
       let g : getD b at 0 ≡ tag = sym (getD-drop at b 0 0 ∙ rw z) ∙ ap (λ (x : List ℕ). getD x 0 0) split in
       let n : numAt b (at + 1) 2 ≡ length body = num-is b (at + 1) 2 (length body) _ after-tag s in
       let w = field-within in
       let h : at + 3 ≤ length b = omega arith in
-      sym (frame-field b low at h (rw g t) (rw (g, n) l) (rw n w)) ∙ rw (g, n)
+      sym (frame-field fields b low at h (rw g t) (rw (g, n) l) (rw n w)) ∙ rw (g, n)
 
-module _ (b : List ℕ) (s : Seen) (low at tag len : ℕ) (w : frameOf b low at ≡ Field tag len) (c : rightContent b s tag (at + 3) len ≡ true) where
-  read-more : (f : ℕ) → eqb tag 6 ≡ false → readFrom b (suc f) s low at ≡ readFrom b f (told b s tag (at + 3) len) (lowAfter tag len) (at + 3 + len)
+module _ (b : List ℕ) (s : Seen) (low at tag len : ℕ) (w : frameOf fields b low at ≡ Field tag len) (c : rightContent b s tag (at + 3) len ≡ true) where
+  read-more : (f : ℕ) → eqb tag 6 ≡ false → readFrom b (suc f) s low at ≡ readFrom b f (told b s tag (at + 3) len) (lowAfter fields tag len) (at + 3 + len)
   unfolding readFrom fieldThen
   read-more f n = rw (w, c, n)
 
@@ -130,22 +133,20 @@ rising-parts n f (x ∷ a) c p = go (leb f (x .slot)) (ltb (x .slot) n) p (λ q.
     go true false p i = let z : _≡_ {A = ℕ} 0 1 = cc in absurd (omega arith)
     go false v p i = let z : _≡_ {A = ℕ} 0 1 = cc in absurd (omega arith)
 
-right-len-5 : (k : ℕ) → 0 < k → k ≤ fieldEntries → rightLength 5 (entrySize * k) ≡ true
-unfolding rightLength
+right-len-5 : (k : ℕ) → 0 < k → k ≤ fieldEntries → rightLength fields 5 (entrySize * k) ≡ true
+unfolding rightLength kindAt rankOf fields
 right-len-5 k h l =
-    let m : entrySize * k % 16 ≡ 0 = omega arith in
-    let a : 16 ≤ entrySize * k = omega arith in
-    let c : entrySize * k ≤ fieldBytes = omega arith in
-    rw (eq-eqb _ _ m, le-leb _ _ a, le-leb _ _ c)
+    let m : entrySize * k % entrySize ≡ 0 = omega arith in
+    fits-is (kind 5 false entrySize fieldBytes entrySize true) (entrySize * k) m (omega arith) (omega arith)
 
 -- field 6
-last-reads : (b : List ℕ) (f low at : ℕ) (s : Seen) → 4 ≤ low → low ≤ 6 → length (s .entries) < 256 ^ 8 → drop at b ≡ fieldOf 6 (bytesOf 8 (length (s .entries))) → readFrom b (suc f) s low at ≡ good s
-unfolding rightContent rightLength
-last-reads b f low at s four six few d =
+last-reads : (b : List ℕ) (f low at : ℕ) (s : Seen) → rightTag fields low 6 ≡ true → length (s .entries) < 256 ^ 8 → drop at b ≡ fieldOf 6 (bytesOf 8 (length (s .entries))) → readFrom b (suc f) s low at ≡ good s
+unfolding rightContent rightLength kindAt rankOf fits fields
+last-reads b f low at s six few d =
     let N : ℕ = length (s .entries) in
     let l : length (bytesOf 8 (length (s .entries))) ≡ 8 = length-bytes 8 (length (s .entries)) in
     let d0 : drop at b ≡ fieldOf 6 (bytesOf 8 (length (s .entries))) ++ [] = d ∙ sym (append-nil _) in
-    let w : frameOf b low at ≡ Field 6 8 = rw l at (frame-is b at 6 (bytesOf 8 (length (s .entries))) [] d0 low (right-is low 6 four six (omega arith)) (rw l) (omega arith)) in
+    let w : frameOf fields b low at ≡ Field 6 8 = rw l at (frame-is b at 6 (bytesOf 8 (length (s .entries))) [] d0 low six (rw l) (omega arith)) in
     let n : numAt b (at + 3) 8 ≡ length (s .entries) = num-is b (at + 3) 8 (length (s .entries)) [] (body-is b at 6 (bytesOf 8 (length (s .entries))) [] d0) few in
     let z : drop (at + 3 + 8) b ≡ [] = rw l at (next-is b at 6 (bytesOf 8 (length (s .entries))) [] d0) in
     let y : length b - (at + 3 + 8) ≡ 0 = sym (length-drop (at + 3 + 8) b) ∙ ap length z in
@@ -161,23 +162,23 @@ unfolding plus
 plus-plus s a c es e = rw (append-assoc, e)
 
 -- after a field of m entries
-low-next : (m : ℕ) → (4 ≤ lowAfter 5 (entrySize * m)) × (lowAfter 5 (entrySize * m) ≤ 6) × (m ≡ fieldEntries → lowAfter 5 (entrySize * m) ≤ 5)
-unfolding lowAfter rankOf
+low-next : (m : ℕ) → (rightTag fields (lowAfter fields 5 (entrySize * m)) 6 ≡ true) × (m ≡ fieldEntries → rightTag fields (lowAfter fields 5 (entrySize * m)) 5 ≡ true)
+unfolding lowAfter lowBehind rankOf kindAt rightTag mayCome fields
 low-next m =
     cases (eqb (entrySize * m) fieldBytes)
-    (λ e. rw e (omega arith, omega arith, λ q. omega arith))
-    (λ e. rw e (omega arith, omega arith, λ q. let x : entrySize * m ≡ fieldBytes → ⊥ = eqb-false _ _ e in absurd (x (omega arith))))
+    (λ e. rw e (refl, λ q. refl))
+    (λ e. rw e (refl, λ q. let x : entrySize * m ≡ fieldBytes → ⊥ = eqb-false _ _ e in absurd (x (omega arith))))
 
-tail-reads : (b : List ℕ) (k f low at : ℕ) (s : Seen) (es : List Entry) → fieldsFor (length es) ≡ k → k < f → 4 ≤ low → low ≤ 6 → (0 < k → low ≤ 5)
-    → Fit es → rising (s .n) (floorAfter 0 (s .entries)) es ≡ true → length (s .entries ++ es) < 256 ^ 8
+tail-reads : (b : List ℕ) (k f low at : ℕ) (s : Seen) (es : List Entry) → fieldsFor (length es) ≡ k → k < f → rightTag fields low 6 ≡ true → (0 < k → rightTag fields low 5 ≡ true)
+    → Fit es → rising (s .head .n) (floorAfter 0 (s .entries)) es ≡ true → length (s .entries ++ es) < 256 ^ 8
     → drop at b ≡ entryFields k es ++ fieldOf 6 (bytesOf 8 (length (s .entries ++ es)))
     → readFrom b f s low at ≡ good (plus s es)
-unfolding entryFields fieldsFor rightContent told plus
-tail-reads b k zero low at s es e kf four six five fit rise few d = absurd (omega arith)
-tail-reads b zero (suc f) low at s es e kf four six five fit rise few d =
+unfolding entryFields fieldsFor rightContent told toldHead plus
+tail-reads b k zero low at s es e kf six five fit rise few d = absurd (omega arith)
+tail-reads b zero (suc f) low at s es e kf six five fit rise few d =
     let z : es ≡ [] = none-left es e in
-    rw z (rw (plus-none s) (last-reads b f low at s four six (rw (z, append-nil) at few) (rw (z, append-nil) at d)))
-tail-reads b (suc k) (suc f) low at s es e kf four six five fit rise few d =
+    rw z (rw (plus-none s) (last-reads b f low at s six (rw (z, append-nil) at few) (rw (z, append-nil) at d)))
+tail-reads b (suc k) (suc f) low at s es e kf six five fit rise few d =
     let a : List Entry = take fieldEntries es in
     let c : List Entry = drop fieldEntries es in
     let E : take fieldEntries es ++ drop fieldEntries es ≡ es = take-append-drop fieldEntries es in
@@ -188,17 +189,17 @@ tail-reads b (suc k) (suc f) low at s es e kf four six five fit rise few d =
     let most : length (take fieldEntries es) ≤ fieldEntries = omega arith in
     let d1 : drop at b ≡ fieldOf 5 (bodyOf (take fieldEntries es)) ++ (entryFields k (drop fieldEntries es) ++ fieldOf 6 (bytesOf 8 (length (s .entries ++ es)))) = d ∙ append-assoc (fieldOf 5 (bodyOf (take fieldEntries es))) (entryFields k (drop fieldEntries es)) (fieldOf 6 (bytesOf 8 (length (s .entries ++ es)))) in
     let lb : length (bodyOf (take fieldEntries es)) ≡ entrySize * length (take fieldEntries es) = length-body (take fieldEntries es) in
-    let w : frameOf b low at ≡ Field 5 (entrySize * length (take fieldEntries es)) =
-    rw lb at (frame-is b at 5 (bodyOf (take fieldEntries es)) _ d1 low (right-is low 5 four (five (omega arith)) (omega arith)) (rw lb (right-len-5 (length (take fieldEntries es)) pos most)) (omega arith)) in
+    let w : frameOf fields b low at ≡ Field 5 (entrySize * length (take fieldEntries es)) =
+    rw lb at (frame-is b at 5 (bodyOf (take fieldEntries es)) _ d1 low (five (omega arith)) (rw lb (right-len-5 (length (take fieldEntries es)) pos most)) (omega arith)) in
     let q : entrySize * length (take fieldEntries es) / entrySize ≡ length (take fieldEntries es) = omega arith in
     let ea : entriesAt b (at + 3) (length (take fieldEntries es)) ≡ take fieldEntries es = entries-is b (at + 3) (take fieldEntries es) _ (fit-take fieldEntries es fit) (body-is b at 5 (bodyOf (take fieldEntries es)) _ d1) in
-    let parts = rising-parts (s .n) (floorAfter 0 (s .entries)) (take fieldEntries es) (drop fieldEntries es) (rw E rise) in
+    let parts = rising-parts (s .head .n) (floorAfter 0 (s .entries)) (take fieldEntries es) (drop fieldEntries es) (rw E rise) in
     let ok : rightContent b s 5 (at + 3) (entrySize * length (take fieldEntries es)) ≡ true = rw (q, ea) (parts .0) in
     let nx : drop (at + 3 + entrySize * length (take fieldEntries es)) b ≡ entryFields k (drop fieldEntries es) ++ fieldOf 6 (bytesOf 8 (length (s .entries ++ es))) = rw lb at (next-is b at 5 (bodyOf (take fieldEntries es)) _ d1) in
     let al : (s .entries ++ take fieldEntries es) ++ drop fieldEntries es ≡ s .entries ++ es = append-assoc (s .entries) (take fieldEntries es) (drop fieldEntries es) ∙ rw E in
     let lw = low-next (length (take fieldEntries es)) in
-    let ih = tail-reads b k f (lowAfter 5 (entrySize * length (take fieldEntries es))) (at + 3 + entrySize * length (take fieldEntries es)) (plus s (take fieldEntries es)) (drop fieldEntries es) kc (omega arith) (lw .0) (lw .1)
-    (λ x. lw .2 (omega arith)) (fit-drop fieldEntries es fit) (rw floor-append (parts .1)) (rw al few) (rw al nx) in
+    let ih = tail-reads b k f (lowAfter fields 5 (entrySize * length (take fieldEntries es))) (at + 3 + entrySize * length (take fieldEntries es)) (plus s (take fieldEntries es)) (drop fieldEntries es) kc (omega arith) (lw .0)
+    (λ x. lw .1 (omega arith)) (fit-drop fieldEntries es fit) (rw floor-append (parts .1)) (rw al few) (rw al nx) in
     read-more b s low at 5 (entrySize * length (take fieldEntries es)) w ok f refl ∙ rw (q, ea) (ih ∙ ap good (plus-plus s (take fieldEntries es) (drop fieldEntries es) es E))
 
 -- ---- numbers
@@ -210,13 +211,13 @@ module _ (b : List ℕ) (f : ℕ) (s : Seen) (tag k x at : ℕ) (r : List ℕ) (
   stage-next : drop (at + 3 + k) b ≡ r
   stage-next = rw length-bytes at (next-is b at tag (bytesOf k x) r d)
 
-  stage-reads : rightTag tag tag ≡ true → rightLength tag k ≡ true → k < 65536 → eqb tag 5 ≡ false → eqb tag 6 ≡ false
-      → readFrom b (suc f) s tag at ≡ readFrom b f (told b s tag (at + 3) k) (lowAfter tag k) (at + 3 + k)
+  stage-reads : (low : ℕ) → rightTag fields low tag ≡ true → rightLength fields tag k ≡ true → k < 65536 → eqb tag 5 ≡ false → eqb tag 6 ≡ false
+      → readFrom b (suc f) s low at ≡ readFrom b f (told b s tag (at + 3) k) (lowAfter fields tag k) (at + 3 + k)
   unfolding rightContent
-  stage-reads t l m n5 n6 =
+  stage-reads low t l m n5 n6 =
       let e : length (bytesOf k x) ≡ k = length-bytes k x in
-      let w : frameOf b tag at ≡ Field tag k = rw e at (frame-is b at tag (bytesOf k x) r d tag t (rw e l) (rw e m)) in
-      read-more b s tag at tag k w (rw (n5, n6)) f n6
+      let w : frameOf fields b low at ≡ Field tag k = rw e at (frame-is b at tag (bytesOf k x) r d low t (rw e l) (rw e m)) in
+      read-more b s low at tag k w (rw (n5, n6)) f n6
 
 -- ---- the whole image
 
@@ -228,12 +229,12 @@ fields-least (suc k) es =
     rw (length-append, length-field) (omega arith)
 
 -- what an image can say
-pub record Valid (n e seed : ℕ) (label : List ℕ) (es : List Entry) : Type 0 where
-  pub nFits : n < 256 ^ 8
-  pub eFits : e < 256 ^ 4
-  pub seedFits : seed < 256 ^ 8
+pub record Valid (hd : Head) (label : List ℕ) (es : List Entry) : Type 0 where
+  pub nFits : hd .n < 256 ^ 8
+  pub eFits : hd .e < 256 ^ 4
+  pub seedFits : hd .seed < 256 ^ 8
   pub short : length label ≤ 64
-  pub rise : rising n 0 es ≡ true
+  pub rise : rising (hd .n) 0 es ≡ true
   pub fit : Fit es
   pub few : length es < 256 ^ 8
 
@@ -242,54 +243,54 @@ labelPlace [] = 0
 labelPlace (x ∷ label) = 32
 
 -- from the label on
-rest-reads : (b : List ℕ) (f n e seed : ℕ) (label : List ℕ) (es : List Entry) → Valid n e seed label es → fieldsFor (length es) + 1 < f
+rest-reads : (b : List ℕ) (f : ℕ) (hd : Head) (label : List ℕ) (es : List Entry) → Valid hd label es → fieldsFor (length es) + 1 < f
     → drop 29 b ≡ labelField label ++ (entryFields (fieldsFor (length es)) es ++ fieldOf 6 (bytesOf 8 (length es)))
-    → readFrom b f (seen n e seed 0 0 []) 4 29 ≡ good (seen n e seed (labelPlace label) (length label) es)
-unfolding labelField plus floorAfter told lowAfter rightContent rightTag rightLength rankOf
-rest-reads b f n e seed [] es v h d = tail-reads b (fieldsFor (length es)) f 4 29 (seen n e seed 0 0 []) es refl (omega arith) (omega arith) (omega arith) (λ x. omega arith) (v .fit) (v .rise) (v .few) d
-rest-reads b zero n e seed (x ∷ label) es v h d = absurd (omega arith)
-rest-reads b (suc f) n e seed (x ∷ label) es v h d =
+    → readFrom b f (seen hd 0 0 []) 3 29 ≡ good (seen hd (labelPlace label) (length label) es)
+unfolding labelField plus floorAfter told toldHead lowAfter lowBehind rightContent rightTag mayCome rightLength kindAt rankOf fits fields
+rest-reads b f hd [] es v h d =
+    tail-reads b (fieldsFor (length es)) f 3 29 (seen hd 0 0 []) es refl (omega arith) refl (λ x. refl) (v .fit) (v .rise) (v .few) d
+rest-reads b zero hd (x ∷ label) es v h d = absurd (omega arith)
+rest-reads b (suc f) hd (x ∷ label) es v h d =
     let l = v .short in
     let a : 1 ≤ length (x ∷ label) = omega arith in
-    let w : frameOf b 4 29 ≡ Field 4 (length (x ∷ label)) = frame-is b 29 4 (x ∷ label) _ d 4 refl (rw (le-leb _ _ a, le-leb _ _ l)) (omega arith) in
-    read-more b (seen n e seed 0 0 []) 4 29 4 (length (x ∷ label)) w refl f refl
-    ∙ tail-reads b (fieldsFor (length es)) f 5 (32 + length (x ∷ label)) (seen n e seed 32 (length (x ∷ label)) []) es refl (omega arith) (omega arith) (omega arith) (λ y. omega arith) (v .fit) (v .rise) (v .few)
+    let m : length (x ∷ label) % 1 ≡ 0 = omega arith in
+    let w : frameOf fields b 3 29 ≡ Field 4 (length (x ∷ label)) = frame-is b 29 4 (x ∷ label) _ d 3 refl (fits-is (kind 4 false 1 64 1 false) (length (x ∷ label)) m a l) (omega arith) in
+    read-more b (seen hd 0 0 []) 3 29 4 (length (x ∷ label)) w refl f refl
+    ∙ tail-reads b (fieldsFor (length es)) f 4 (32 + length (x ∷ label)) (seen hd 32 (length (x ∷ label)) []) es refl (omega arith) refl (λ y. refl) (v .fit) (v .rise) (v .few)
     (next-is b 29 4 (x ∷ label) _ d)
 
 -- where a label stands
-image-rest : (n e seed : ℕ) (label : List ℕ) (es : List Entry)
-    → drop 29 (imageOf n e seed label es) ≡ labelField label ++ (entryFields (fieldsFor (length es)) es ++ fieldOf 6 (bytesOf 8 (length es)))
+image-rest : (hd : Head) (label : List ℕ) (es : List Entry)
+    → drop 29 (imageOf hd label es) ≡ labelField label ++ (entryFields (fieldsFor (length es)) es ++ fieldOf 6 (bytesOf 8 (length es)))
 unfolding imageOf
-image-rest n e seed label es =
-    let d1 = stage-next (imageOf n e seed label es) 0 (seen 0 0 0 0 0 []) 1 8 n 0 _ refl in
-    let d2 = stage-next (imageOf n e seed label es) 0 (seen 0 0 0 0 0 []) 2 4 e 11 _ d1 in
-    stage-next (imageOf n e seed label es) 0 (seen 0 0 0 0 0 []) 3 8 seed 18 _ d2
+image-rest hd label es =
+    let d1 = stage-next (imageOf hd label es) 0 (seen unnamed 0 0 []) 1 8 (hd .n) 0 _ refl in
+    let d2 = stage-next (imageOf hd label es) 0 (seen unnamed 0 0 []) 2 4 (hd .e) 11 _ d1 in
+    stage-next (imageOf hd label es) 0 (seen unnamed 0 0 []) 3 8 (hd .seed) 18 _ d2
 
-pub label-stands : (n e seed : ℕ) (label : List ℕ) (es : List Entry) → take (length label) (drop (labelPlace label) (imageOf n e seed label es)) ≡ label
+pub label-stands : (hd : Head) (label : List ℕ) (es : List Entry) → take (length label) (drop (labelPlace label) (imageOf hd label es)) ≡ label
 unfolding labelField
-label-stands n e seed [] es = refl
-label-stands n e seed (x ∷ label) es =
-    let d = body-is (imageOf n e seed (x ∷ label) es) 29 4 (x ∷ label) _ (image-rest n e seed (x ∷ label) es) in
+label-stands hd [] es = refl
+label-stands hd (x ∷ label) es =
+    let d = body-is (imageOf hd (x ∷ label) es) 29 4 (x ∷ label) _ (image-rest hd (x ∷ label) es) in
     ap (take (length (x ∷ label))) d ∙ take-at (x ∷ label) _ (length (x ∷ label)) refl
 
-pub read-after-write : (n e seed : ℕ) (label : List ℕ) (es : List Entry) → Valid n e seed label es
-    → readOf (imageOf n e seed label es) ≡ good (seen n e seed (labelPlace label) (length label) es)
-unfolding readOf told lowAfter rightTag rightLength imageOf rankOf
-read-after-write n e seed label es v =
+pub read-after-write : (hd : Head) (label : List ℕ) (es : List Entry) → Valid hd label es
+    → readOf (imageOf hd label es) ≡ good (seen hd (labelPlace label) (length label) es)
+unfolding readOf told toldHead lowAfter lowBehind rightTag mayCome rightLength kindAt fits imageOf rankOf fields
+read-after-write hd label es v =
     let R : List ℕ = labelField label ++ (entryFields (fieldsFor (length es)) es ++ fieldOf 6 (bytesOf 8 (length es))) in
-    let b : List ℕ = imageOf n e seed label es in
-    let size : length (imageOf n e seed label es) ≡ 40 + (length (labelField label) + length (entryFields (fieldsFor (length es)) es)) = simp (length-append, length-field, length-bytes) (omega arith) in
+    let size : length (imageOf hd label es) ≡ 40 + (length (labelField label) + length (entryFields (fieldsFor (length es)) es)) = simp (length-append, length-field, length-bytes) (omega arith) in
     let least = fields-least (fieldsFor (length es)) es in
-    let f : ℕ = length (imageOf n e seed label es) - 2 in
-    let fuel : length (imageOf n e seed label es) ≡ suc (suc (length (imageOf n e seed label es) - 2)) = omega arith in
-    let d1 : drop 11 (imageOf n e seed label es) ≡ fieldOf 2 (bytesOf 4 e) ++ (fieldOf 3 (bytesOf 8 seed) ++ R) = stage-next (imageOf n e seed label es) 0 (seen 0 0 0 0 0 []) 1 8 n 0 _ refl in
-    let d2 : drop 18 (imageOf n e seed label es) ≡ fieldOf 3 (bytesOf 8 seed) ++ R = stage-next (imageOf n e seed label es) 0 (seen 0 0 0 0 0 []) 2 4 e 11 _ d1 in
-    let d3 : drop 29 (imageOf n e seed label es) ≡ R = stage-next (imageOf n e seed label es) 0 (seen 0 0 0 0 0 []) 3 8 seed 18 _ d2 in
-    let n1 : numAt (imageOf n e seed label es) 3 8 ≡ n = stage-num (imageOf n e seed label es) 0 (seen 0 0 0 0 0 []) 1 8 n 0 _ refl (v .nFits) in
-    let n2 : numAt (imageOf n e seed label es) 14 4 ≡ e = stage-num (imageOf n e seed label es) 0 (seen 0 0 0 0 0 []) 2 4 e 11 _ d1 (v .eFits) in
-    let n3 : numAt (imageOf n e seed label es) 21 8 ≡ seed = stage-num (imageOf n e seed label es) 0 (seen 0 0 0 0 0 []) 3 8 seed 18 _ d2 (v .seedFits) in
-    stage-reads (imageOf n e seed label es) (length (imageOf n e seed label es)) (seen 0 0 0 0 0 []) 1 8 n 0 _ refl refl refl (omega arith) refl refl
-    ∙ ap (λ (t : ℕ). readFrom (imageOf n e seed label es) t (seen (numAt (imageOf n e seed label es) 3 8) 0 0 0 0 []) 2 11) fuel
-    ∙ stage-reads (imageOf n e seed label es) (suc (length (imageOf n e seed label es) - 2)) (seen (numAt (imageOf n e seed label es) 3 8) 0 0 0 0 []) 2 4 e 11 _ d1 refl refl (omega arith) refl refl
-    ∙ stage-reads (imageOf n e seed label es) (length (imageOf n e seed label es) - 2) (seen (numAt (imageOf n e seed label es) 3 8) (numAt (imageOf n e seed label es) 14 4) 0 0 0 []) 3 8 seed 18 _ d2 refl refl (omega arith) refl refl
-    ∙ rw (n1, n2, n3) (rest-reads (imageOf n e seed label es) (length (imageOf n e seed label es) - 2) n e seed label es v (omega arith) d3)
+    let fuel : length (imageOf hd label es) ≡ suc (suc (length (imageOf hd label es) - 2)) = omega arith in
+    let d1 : drop 11 (imageOf hd label es) ≡ fieldOf 2 (bytesOf 4 (hd .e)) ++ (fieldOf 3 (bytesOf 8 (hd .seed)) ++ R) = stage-next (imageOf hd label es) 0 (seen unnamed 0 0 []) 1 8 (hd .n) 0 _ refl in
+    let d2 : drop 18 (imageOf hd label es) ≡ fieldOf 3 (bytesOf 8 (hd .seed)) ++ R = stage-next (imageOf hd label es) 0 (seen unnamed 0 0 []) 2 4 (hd .e) 11 _ d1 in
+    let d3 : drop 29 (imageOf hd label es) ≡ R = image-rest hd label es in
+    let n1 : numAt (imageOf hd label es) 3 8 ≡ hd .n = stage-num (imageOf hd label es) 0 (seen unnamed 0 0 []) 1 8 (hd .n) 0 _ refl (v .nFits) in
+    let n2 : numAt (imageOf hd label es) 14 4 ≡ hd .e = stage-num (imageOf hd label es) 0 (seen unnamed 0 0 []) 2 4 (hd .e) 11 _ d1 (v .eFits) in
+    let n3 : numAt (imageOf hd label es) 21 8 ≡ hd .seed = stage-num (imageOf hd label es) 0 (seen unnamed 0 0 []) 3 8 (hd .seed) 18 _ d2 (v .seedFits) in
+    stage-reads (imageOf hd label es) (length (imageOf hd label es)) (seen unnamed 0 0 []) 1 8 (hd .n) 0 _ refl 0 refl refl (omega arith) refl refl
+    ∙ ap (λ (t : ℕ). readFrom (imageOf hd label es) t (seen (headed (numAt (imageOf hd label es) 3 8) 0 0) 0 0 []) 1 11) fuel
+    ∙ stage-reads (imageOf hd label es) (suc (length (imageOf hd label es) - 2)) (seen (headed (numAt (imageOf hd label es) 3 8) 0 0) 0 0 []) 2 4 (hd .e) 11 _ d1 1 refl refl (omega arith) refl refl
+    ∙ stage-reads (imageOf hd label es) (length (imageOf hd label es) - 2) (seen (headed (numAt (imageOf hd label es) 3 8) (numAt (imageOf hd label es) 14 4) 0) 0 0 []) 3 8 (hd .seed) 18 _ d2 2 refl refl (omega arith) refl refl
+    ∙ rw (n1, n2, n3) (rest-reads (imageOf hd label es) (length (imageOf hd label es) - 2) hd label es v (omega arith) d3)

@@ -11,12 +11,15 @@ use borrow.Author.Tests.{eqb-true, eqb-false}
 use Rattle.words.specs.Pick.{pick}
 use Rattle.words.specs.Bytes.{bytesOf, numAt, Bytes}
 use Rattle.words.specs.BytesLaws.{bytes-num, length-bytes}
-use Rattle.image.specs.Format.{entrySize, fieldEntries, fieldBytes, Entry, bodyOf, fieldOf, labelField, entryFields, fieldsFor, imageOf}
-use Rattle.image.specs.Reading.{rankOf, rightTag, rightLength, lowAfter, entriesAt, rising, floorAfter, Seen, seen, told, rightContent, good, readFrom, readOf}
+use Rattle.image.specs.Format.{entrySize, fieldEntries, fieldBytes, fields, Entry, bodyOf, fieldOf, labelField, entryFields, fieldsFor, imageOf}
+use Rattle.image.specs.Head.{headed, unnamed}
+use Rattle.image.specs.Reading.{rankOf, mayCome, rightTag, kindAt, rightLength, lowBehind, lowAfter, entriesAt, rising, floorAfter, Seen, seen, toldHead, told, rightContent, good, readFrom, readOf}
 use Rattle.image.specs.CursorLaws.{floor-append, length-entries}
-use Rattle.image.specs.FrameLaws.{Framing, right-demanded, right-free, len-1, len-2, len-3, len-4, len-5, len-6}
+use Rattle.image.specs.FrameLaws.{Framing}
+use Rattle.image.specs.KindLaws.{len-1, len-2, len-3, len-4, len-5, len-6}
 use Rattle.image.specs.ReadingLaws.{Step, last, more, step-of, not-good}
-use Rattle.image.specs.TestLaws.{cases}
+use Rattle.image.specs.TestLaws.{cases, not-both}
+use Rattle.image.specs.declared.head.Head.{Head}
 use Rattle.image_writer.specs.EntryFieldLaws.{length-body}
 
 -- ---- bytes of a field
@@ -35,7 +38,7 @@ module _ (b : List ℕ) (B : Bytes b) where
       let u : drop (p + 8) b ≡ bytesOf 8 (numAt b (p + 8) 8) ++ (bodyOf (entriesAt b (p + entrySize) k) ++ drop (p + 16 + entrySize * k) b) = num-drop 8 (p + 8) (omega arith) ∙ rw (e, i) in
       num-drop 8 p (omega arith) ∙ rw (u, d) (simp append-assoc)
 
-  module _ {low at tag len : ℕ} (f : Framing b low at tag len) where
+  module _ {low at tag len : ℕ} (f : Framing fields b low at tag len) where
     head-drop : drop at b ≡ tag ∷ (bytesOf 2 len ++ drop (at + 3) b)
     head-drop =
         let w = f .within in
@@ -51,14 +54,30 @@ module _ (b : List ℕ) (B : Bytes b) where
 
 -- ---- tags that are right
 
-tag-6 : (tag : ℕ) → rightTag 6 tag ≡ true → tag ≡ 6
-tag-6 tag h = let q = right-free 6 tag (omega arith) h in omega arith
+-- where a field must stand, only its tag is right
+must-1 : (tag : ℕ) → rightTag fields 0 tag ≡ true → tag ≡ 1
+unfolding rightTag mayCome fields
+must-1 tag h = cases (eqb 1 tag) (λ e. sym (eqb-true _ _ e)) (λ e. not-both (sym (rw e at h)))
 
-tag-5 : (tag : ℕ) → rightTag 5 tag ≡ true → (tag ≡ 6 → ⊥) → tag ≡ 5
-tag-5 tag h n = let q = right-free 5 tag (omega arith) h in omega arith
+must-2 : (tag : ℕ) → rightTag fields 1 tag ≡ true → tag ≡ 2
+unfolding rightTag mayCome fields
+must-2 tag h = cases (eqb 2 tag) (λ e. sym (eqb-true _ _ e)) (λ e. not-both (sym (rw e at h)))
 
-tag-45 : (tag : ℕ) → rightTag 4 tag ≡ true → (tag ≡ 4 → ⊥) → (tag ≡ 6 → ⊥) → tag ≡ 5
-tag-45 tag h m n = let q = right-free 4 tag (omega arith) h in omega arith
+must-3 : (tag : ℕ) → rightTag fields 2 tag ≡ true → tag ≡ 3
+unfolding rightTag mayCome fields
+must-3 tag h = cases (eqb 3 tag) (λ e. sym (eqb-true _ _ e)) (λ e. not-both (sym (rw e at h)))
+
+tag-6 : (tag : ℕ) → rightTag fields 5 tag ≡ true → tag ≡ 6
+unfolding rightTag mayCome fields
+tag-6 tag h = cases (eqb 6 tag) (λ e. sym (eqb-true _ _ e)) (λ e. not-both (sym (rw e at h)))
+
+tag-5 : (tag : ℕ) → rightTag fields 4 tag ≡ true → (tag ≡ 6 → ⊥) → tag ≡ 5
+unfolding rightTag mayCome fields
+tag-5 tag h n = cases (eqb 5 tag) (λ e. sym (eqb-true _ _ e)) (λ e. absurd (n (tag-6 tag (rw e at h))))
+
+tag-45 : (tag : ℕ) → rightTag fields 3 tag ≡ true → (tag ≡ 4 → ⊥) → (tag ≡ 6 → ⊥) → tag ≡ 5
+unfolding rightTag mayCome fields
+tag-45 tag h m n = cases (eqb 4 tag) (λ e. absurd (m (sym (eqb-true _ _ e)))) (λ e. tag-5 tag (rw e at h) n)
 
 -- ---- cutting entries into fields
 
@@ -88,13 +107,13 @@ rising-append n f (x ∷ a) c p q = go (leb f (x .slot)) (ltb (x .slot) n) p (λ
 -- ---- field 6
 
 unfoldable pub plus : Seen → List Entry → Seen
-plus s es = seen (s .n) (s .e) (s .seed) (s .labelAt) (s .labelLen) (s .entries ++ es)
+plus s es = seen (s .head) (s .labelAt) (s .labelLen) (s .entries ++ es)
 
 pub plus-none : (s : Seen) → plus s [] ≡ s
 unfolding plus
 plus-none s = rw append-nil
 
-count-drop : (b : List ℕ) → Bytes b → (s : Seen) (low at len : ℕ) → Framing b low at 6 len → rightContent b s 6 (at + 3) len ≡ true → length b ≤ at + 3 + len
+count-drop : (b : List ℕ) → Bytes b → (s : Seen) (low at len : ℕ) → Framing fields b low at 6 len → rightContent b s 6 (at + 3) len ≡ true → length b ≤ at + 3 + len
     → drop at b ≡ fieldOf 6 (bytesOf 8 (length (s .entries)))
 unfolding rightContent
 count-drop b B s low at len r c z =
@@ -110,26 +129,26 @@ record Tail (b : List ℕ) (s : Seen) (at : ℕ) (g : Seen) : Type 0 where
   es : List Entry
   all : g ≡ plus s es
   bytes : drop at b ≡ entryFields (fieldsFor (length es)) es ++ fieldOf 6 (bytesOf 8 (length (s .entries ++ es)))
-  rise : rising (s .n) (floorAfter 0 (s .entries)) es ≡ true
+  rise : rising (s .head .n) (floorAfter 0 (s .entries)) es ≡ true
 
-tail-last : (b : List ℕ) → Bytes b → (s g : Seen) (low at len : ℕ) → Framing b low at 6 len → rightContent b s 6 (at + 3) len ≡ true → length b ≤ at + 3 + len → g ≡ s → Tail b s at g
+tail-last : (b : List ℕ) → Bytes b → (s g : Seen) (low at len : ℕ) → Framing fields b low at 6 len → rightContent b s 6 (at + 3) len ≡ true → length b ≤ at + 3 + len → g ≡ s → Tail b s at g
 unfolding entryFields fieldsFor rising
 tail-last b B s g low at len r c z e = record { es = []; all = e ∙ sym (plus-none s); bytes = count-drop b B s low at len r c z ∙ rw append-nil; rise = refl }
 
 -- after a short field 5 comes field 6
-tail-6 : (b : List ℕ) → Bytes b → (f : ℕ) (s g : Seen) (at : ℕ) → readFrom b f s 6 at ≡ good g → (g ≡ s) × (drop at b ≡ fieldOf 6 (bytesOf 8 (length (s .entries))))
+tail-6 : (b : List ℕ) → Bytes b → (f : ℕ) (s g : Seen) (at : ℕ) → readFrom b f s 5 at ≡ good g → (g ≡ s) × (drop at b ≡ fieldOf 6 (bytesOf 8 (length (s .entries))))
 unfolding readFrom
 tail-6 b B zero s g at h = not-good at g h
-tail-6 b B (suc f) s g at h = go (step-of b f s 6 at g h)
+tail-6 b B (suc f) s g at h = go (step-of b f s 5 at g h)
   where
-    go : Step b f s 6 at g → (g ≡ s) × (drop at b ≡ fieldOf 6 (bytesOf 8 (length (s .entries))))
-    go (last len r c z e) = (e, count-drop b B s 6 at len r c z)
+    go : Step b f s 5 at g → (g ≡ s) × (drop at b ≡ fieldOf 6 (bytesOf 8 (length (s .entries))))
+    go (last len r c z e) = (e, count-drop b B s 5 at len r c z)
     go (more tag len r c n h) = absurd (n (tag-6 tag (r .okTag)))
 
 -- ---- fields 5
 
-module _ (b : List ℕ) (B : Bytes b) (f : ℕ) (s g : Seen) (low at len : ℕ) (r : Framing b low at 5 len)
-    (c : rising (s .n) (floorAfter 0 (s .entries)) (entriesAt b (at + 3) (len / entrySize)) ≡ true) where
+module _ (b : List ℕ) (B : Bytes b) (f : ℕ) (s g : Seen) (low at len : ℕ) (r : Framing fields b low at 5 len)
+    (c : rising (s .head .n) (floorAfter 0 (s .entries)) (entriesAt b (at + 3) (len / entrySize)) ≡ true) where
   fresh-drop : drop at b ≡ fieldOf 5 (bodyOf (entriesAt b (at + 3) (len / entrySize))) ++ drop (at + 3 + len) b
   fresh-drop =
       let q = len-5 5 len (r .okLen) refl in
@@ -148,7 +167,7 @@ module _ (b : List ℕ) (B : Bytes b) (f : ℕ) (s g : Seen) (low at len : ℕ) 
         es = new ++ t .es;
         all = t .all ∙ rw append-assoc;
         bytes = fresh-drop ∙ rw (t .bytes, cut-full new (t .es) k) (rw append-assoc (simp append-assoc));
-        rise = rising-append (s .n) (floorAfter 0 (s .entries)) new (t .es) c (rw floor-append at (t .rise));
+        rise = rising-append (s .head .n) (floorAfter 0 (s .entries)) new (t .es) c (rw floor-append at (t .rise));
       }
 
   -- a short one, and field 6
@@ -165,23 +184,23 @@ module _ (b : List ℕ) (B : Bytes b) (f : ℕ) (s g : Seen) (low at len : ℕ) 
       }
 
 tail-step : (b : List ℕ) → Bytes b → (f : ℕ) (s g : Seen) (low at : ℕ) → Step b f s low at g
-    → ((tag : ℕ) → rightTag low tag ≡ true → getD b at 0 ≡ tag → (tag ≡ 6 → ⊥) → tag ≡ 5)
-    → ((t : Seen) (p : ℕ) → readFrom b f t 5 p ≡ good g → Tail b t p g) → Tail b s at g
-unfolding told lowAfter rightContent plus rankOf
+    → ((tag : ℕ) → rightTag fields low tag ≡ true → getD b at 0 ≡ tag → (tag ≡ 6 → ⊥) → tag ≡ 5)
+    → ((t : Seen) (p : ℕ) → readFrom b f t 4 p ≡ good g → Tail b t p g) → Tail b s at g
+unfolding told toldHead lowAfter lowBehind rightContent plus rankOf kindAt fields
 tail-step b B f s g low at (last len r c z e) five ih = tail-last b B s g low at len r c z e
 tail-step b B f s g low at (more tag len r c n h) five ih =
     let t : tag ≡ 5 = five tag (r .okTag) (r .tagIs) n in
-    let r5 : Framing b low at 5 len = rw t at r in
+    let r5 : Framing fields b low at 5 len = rw t at r in
     let c5 : rightContent b s 5 (at + 3) len ≡ true = rw t at c in
-    let h5 : readFrom b f (told b s 5 (at + 3) len) (lowAfter 5 len) (at + 3 + len) ≡ good g = rw t at h in
+    let h5 : readFrom b f (told b s 5 (at + 3) len) (lowAfter fields 5 len) (at + 3 + len) ≡ good g = rw t at h in
     cases (eqb len fieldBytes)
     (λ e. tail-full b B f s g low at len r5 c5 (eqb-true _ _ e) (ih (plus s (entriesAt b (at + 3) (len / entrySize))) (at + 3 + len) (rw e at h5)))
     (λ e. let q = tail-6 b B f (plus s (entriesAt b (at + 3) (len / entrySize))) g (at + 3 + len) (rw e at h5) in tail-short b B f s g low at len r5 c5 (eqb-false _ _ e) (q .0) (q .1))
 
-tail-5 : (b : List ℕ) → Bytes b → (f : ℕ) (s g : Seen) (at : ℕ) → readFrom b f s 5 at ≡ good g → Tail b s at g
+tail-5 : (b : List ℕ) → Bytes b → (f : ℕ) (s g : Seen) (at : ℕ) → readFrom b f s 4 at ≡ good g → Tail b s at g
 unfolding readFrom
 tail-5 b B zero s g at h = not-good at g h
-tail-5 b B (suc f) s g at h = tail-step b B f s g 5 at (step-of b f s 5 at g h) (λ tag t e n. tag-5 tag t n) (λ t p k. tail-5 b B f t g p k)
+tail-5 b B (suc f) s g at h = tail-step b B f s g 4 at (step-of b f s 4 at g h) (λ tag t e n. tag-5 tag t n) (λ t p k. tail-5 b B f t g p k)
 
 -- ---- the label
 
@@ -192,35 +211,40 @@ label-field (x ∷ l) h = refl
 
 -- what is left of an image after field 3
 record Rest (b : List ℕ) (s : Seen) (at : ℕ) (g : Seen) : Type 0 where
-  num : (g .n ≡ s .n) × (g .e ≡ s .e) × (g .seed ≡ s .seed)
+  named : g .head ≡ s .head
   bytes : drop at b ≡ labelField (take (g .labelLen) (drop (g .labelAt) b)) ++ (entryFields (fieldsFor (length (g .entries))) (g .entries) ++ fieldOf 6 (bytesOf 8 (length (g .entries))))
-  rise : rising (s .n) 0 (g .entries) ≡ true
+  rise : rising (s .head .n) 0 (g .entries) ≡ true
   short : g .labelLen ≤ 64
 
-rest : (b : List ℕ) → Bytes b → (f n e d : ℕ) (g : Seen) (at : ℕ) → readFrom b f (seen n e d 0 0 []) 4 at ≡ good g → Rest b (seen n e d 0 0 []) at g
-unfolding readFrom plus labelField floorAfter told lowAfter rankOf
-rest b B zero n e d g at h = not-good at g h
-rest b B (suc f) n e d g at h = go (step-of b f (seen n e d 0 0 []) 4 at g h)
+rest : (b : List ℕ) → Bytes b → (f : ℕ) (hd : Head) (g : Seen) (at : ℕ) → readFrom b f (seen hd 0 0 []) 3 at ≡ good g → Rest b (seen hd 0 0 []) at g
+unfolding readFrom plus labelField floorAfter told toldHead lowAfter lowBehind rankOf kindAt fields
+rest b B zero hd g at h = not-good at g h
+rest b B (suc f) hd g at h = go (step-of b f (seen hd 0 0 []) 3 at g h)
   where
-    plain : Tail b (seen n e d 0 0 []) at g → Rest b (seen n e d 0 0 []) at g
-    plain t = rw (t .all) (record { num = (refl, refl, refl); bytes = t .bytes; rise = t .rise; short = omega arith })
+    plain : Tail b (seen hd 0 0 []) at g → Rest b (seen hd 0 0 []) at g
+    plain t = rw (t .all) (record { named = refl; bytes = t .bytes; rise = t .rise; short = omega arith })
 
-    label : (len : ℕ) → Framing b 4 at 4 len → Tail b (seen n e d (at + 3) len []) (at + 3 + len) g → Rest b (seen n e d 0 0 []) at g
+    label : (len : ℕ) → Framing fields b 3 at 4 len → Tail b (seen hd (at + 3) len []) (at + 3 + len) g → Rest b (seen hd 0 0 []) at g
     label len r t =
         let q = len-4 4 len (r .okLen) refl in
         let w = r .within in
         let l : length (take len (drop (at + 3) b)) ≡ len = length-take-le len (drop (at + 3) b) (rw length-drop (omega arith)) in
         let k : drop (at + 3) b ≡ take len (drop (at + 3) b) ++ drop (at + 3 + len) b = rw (← drop-drop len (at + 3) b) (sym (take-append-drop len (drop (at + 3) b))) in
         rw (t .all)
-        (record { num = (refl, refl, refl); bytes = field-drop b B r (take len (drop (at + 3) b)) l k ∙ rw (t .bytes, label-field (take len (drop (at + 3) b)) (omega arith)); rise = t .rise; short = q .1 })
+        (record {
+          named = refl;
+          bytes = field-drop b B r (take len (drop (at + 3) b)) l k ∙ rw (t .bytes, label-field (take len (drop (at + 3) b)) (omega arith));
+          rise = t .rise;
+          short = q .1;
+        })
 
-    go : Step b f (seen n e d 0 0 []) 4 at g → Rest b (seen n e d 0 0 []) at g
-    go (last len r c z q) = plain (tail-last b B (seen n e d 0 0 []) g 4 at len r c z q)
+    go : Step b f (seen hd 0 0 []) 3 at g → Rest b (seen hd 0 0 []) at g
+    go (last len r c z q) = plain (tail-last b B (seen hd 0 0 []) g 3 at len r c z q)
     go (more tag len r c m k) =
         cases (eqb tag 4)
-        (λ x. let t : tag ≡ 4 = eqb-true _ _ x in label len (rw t at r) (tail-5 b B f (seen n e d (at + 3) len []) g (at + 3 + len) (rw t at k)))
+        (λ x. let t : tag ≡ 4 = eqb-true _ _ x in label len (rw t at r) (tail-5 b B f (seen hd (at + 3) len []) g (at + 3 + len) (rw t at k)))
         (λ x. let u : tag ≡ 4 → ⊥ = eqb-false _ _ x in
-        plain (tail-step b B f (seen n e d 0 0 []) g 4 at (more tag len r c m k) (λ t y z v. tag-45 t y (λ p. u (sym (r .tagIs) ∙ z ∙ p)) v) (λ t p i. tail-5 b B f t g p i)))
+        plain (tail-step b B f (seen hd 0 0 []) g 3 at (more tag len r c m k) (λ t y z v. tag-45 t y (λ p. u (sym (r .tagIs) ∙ z ∙ p)) v) (λ t p i. tail-5 b B f t g p i)))
 
 -- ---- numbers
 
@@ -230,39 +254,39 @@ record On (b : List ℕ) (s : Seen) (low at tag k : ℕ) (g : Seen) : Type 0 whe
   within : at + 3 + k ≤ length b
   bytes : drop at b ≡ fieldOf tag (bytesOf k (numAt b (at + 3) k)) ++ drop (at + 3 + k) b
 
-stage : (b : List ℕ) → Bytes b → (tag k : ℕ) → (tag ≡ 6 → ⊥) → ((t : ℕ) → rightTag tag t ≡ true → t ≡ tag) → ((len : ℕ) → rightLength tag len ≡ true → len ≡ k)
-    → (f : ℕ) (s g : Seen) (at : ℕ) → readFrom b f s tag at ≡ good g → On b (told b s tag (at + 3) k) (lowAfter tag k) at tag k g
+stage : (b : List ℕ) → Bytes b → (low tag k : ℕ) → (tag ≡ 6 → ⊥) → ((t : ℕ) → rightTag fields low t ≡ true → t ≡ tag) → ((len : ℕ) → rightLength fields tag len ≡ true → len ≡ k)
+    → (f : ℕ) (s g : Seen) (at : ℕ) → readFrom b f s low at ≡ good g → On b (told b s tag (at + 3) k) (lowAfter fields tag k) at tag k g
 unfolding readFrom
-stage b B tag k six one size zero s g at h = not-good at g h
-stage b B tag k six one size (suc f) s g at h = go (step-of b f s tag at g h)
+stage b B low tag k six one size zero s g at h = not-good at g h
+stage b B low tag k six one size (suc f) s g at h = go (step-of b f s low at g h)
   where
-    go : Step b f s tag at g → On b (told b s tag (at + 3) k) (lowAfter tag k) at tag k g
+    go : Step b f s low at g → On b (told b s tag (at + 3) k) (lowAfter fields tag k) at tag k g
     go (last len r c z e) = absurd (six (sym (one 6 (r .okTag))))
     go (more t len r c n h) =
         let p : t ≡ tag = one t (r .okTag) in
-        let r1 : Framing b tag at tag len = rw p at r in
+        let r1 : Framing fields b low at tag len = rw p at r in
         let q : len ≡ k = size len (r1 .okLen) in
-        let r2 : Framing b tag at tag k = rw q at r1 in
-        let h2 : readFrom b f (told b s tag (at + 3) k) (lowAfter tag k) (at + 3 + k) ≡ good g = rw (p, q) at h in
+        let r2 : Framing fields b low at tag k = rw q at r1 in
+        let h2 : readFrom b f (told b s tag (at + 3) k) (lowAfter fields tag k) (at + 3 + k) ≡ good g = rw (p, q) at h in
         record { fuel = f; next = h2; within = r2 .within; bytes = field-drop b B r2 (bytesOf k (numAt b (at + 3) k)) (length-bytes k _) (num-drop b B k (at + 3) (r2 .within)) }
 
 -- ---- the whole image
 
 -- an image that is read as right is the image of what was read, and its slots rise below n
 pub record Image (b : List ℕ) (g : Seen) : Type 0 where
-  pub bytes : b ≡ imageOf (g .n) (g .e) (g .seed) (take (g .labelLen) (drop (g .labelAt) b)) (g .entries)
-  pub rise : rising (g .n) 0 (g .entries) ≡ true
+  pub bytes : b ≡ imageOf (g .head) (take (g .labelLen) (drop (g .labelAt) b)) (g .entries)
+  pub rise : rising (g .head .n) 0 (g .entries) ≡ true
   pub short : g .labelLen ≤ 64
 
 pub write-after-read : (b : List ℕ) → Bytes b → (g : Seen) → readOf b ≡ good g → Image b g
-unfolding readOf told lowAfter imageOf rankOf
+unfolding readOf told toldHead lowAfter lowBehind imageOf rankOf kindAt fields
 write-after-read b B g h =
-    let a = stage b B 1 8 (λ e. absurd (omega arith)) (λ t r. right-demanded 1 t (omega arith) r) (λ len l. len-1 1 len l refl) (suc (length b)) (seen 0 0 0 0 0 []) g 0 h in
-    let c = stage b B 2 4 (λ e. absurd (omega arith)) (λ t r. right-demanded 2 t (omega arith) r) (λ len l. len-2 2 len l refl) (a .fuel) (seen (numAt b 3 8) 0 0 0 0 []) g 11 (a .next) in
-    let d = stage b B 3 8 (λ e. absurd (omega arith)) (λ t r. right-demanded 3 t (omega arith) r) (λ len l. len-3 3 len l refl) (c .fuel) (seen (numAt b 3 8) (numAt b 14 4) 0 0 0 []) g 18 (c .next) in
-    let r = rest b B (d .fuel) (numAt b 3 8) (numAt b 14 4) (numAt b 21 8) g 29 (d .next) in
+    let a = stage b B 0 1 8 (λ e. absurd (omega arith)) must-1 (λ len l. len-1 1 len l refl) (suc (length b)) (seen unnamed 0 0 []) g 0 h in
+    let c = stage b B 1 2 4 (λ e. absurd (omega arith)) must-2 (λ len l. len-2 2 len l refl) (a .fuel) (seen (headed (numAt b 3 8) 0 0) 0 0 []) g 11 (a .next) in
+    let d = stage b B 2 3 8 (λ e. absurd (omega arith)) must-3 (λ len l. len-3 3 len l refl) (c .fuel) (seen (headed (numAt b 3 8) (numAt b 14 4) 0) 0 0 []) g 18 (c .next) in
+    let r = rest b B (d .fuel) (headed (numAt b 3 8) (numAt b 14 4) (numAt b 21 8)) g 29 (d .next) in
     record {
-      bytes = a .bytes ∙ rw (r .num .0, r .num .1, r .num .2, c .bytes, d .bytes, r .bytes);
-      rise = rw (r .num .0) (r .rise);
+      bytes = a .bytes ∙ rw (r .named, c .bytes, d .bytes, r .bytes);
+      rise = rw (r .named) (r .rise);
       short = r .short;
     }

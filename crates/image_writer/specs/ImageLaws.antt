@@ -12,8 +12,9 @@ use Rattle.words.specs.Pick.{pick}
 use Rattle.words.specs.Bytes.{bytesOf}
 use Rattle.words.specs.BytesLaws.{sets-append, length-bytes}
 use Rattle.image.specs.Format.{entrySize, fieldEntries, Entry, entriesOf, bodyOf, fieldOf, labelField, entryFields, fieldsFor, imageOf}
+use Rattle.image.specs.declared.head.Head.{Head}
 use Rattle.image_writer.specs.Pieces.{entriesTo, Put, sizeOf}
-use Rattle.image_writer.specs.EntryFieldLaws.{length-body, head-then}
+use Rattle.image_writer.specs.EntryFieldLaws.{length-body, head-then, number-then}
 
 -- ---- bytes copied
 
@@ -59,9 +60,9 @@ length-fields (suc k) es h =
     let j : length (fieldOf 5 (bodyOf (take fieldEntries es))) ≡ 3 + entrySize * length (take fieldEntries es) = length-field 5 (bodyOf (take fieldEntries es)) ∙ rw length-body in
     length-append (fieldOf 5 (bodyOf (take fieldEntries es))) (entryFields k (drop fieldEntries es)) ∙ rw (j, i) (omega arith)
 
-pub length-image : (n e seed : ℕ) (label : List ℕ) (es : List Entry) → length (imageOf n e seed label es) ≡ sizeOf (length label) (length es)
+pub length-image : (hd : Head) (label : List ℕ) (es : List Entry) → length (imageOf hd label es) ≡ sizeOf (length label) (length es)
 unfolding imageOf sizeOf
-length-image n e seed label es =
+length-image hd label es =
     let f = length-fields (fieldsFor (length es)) es refl in
     let l = length-label label in
     simp (length-append, length-field, length-bytes) (omega arith)
@@ -72,26 +73,42 @@ entries-whole words flags = let e : length flags - 0 ≡ length flags = omega ar
 
 -- ---- the whole image
 
-put-two : (l : List ℕ) (at n : ℕ) (a b : List ℕ) → length a ≡ n → sets (sets l at a) (at + n) b ≡ sets l at (a ++ b)
-put-two l at n a b e = rw (← e) (sym (sets-append l at a b))
+-- a part that was put, and what was put behind it
+put-then : (part rest before now after : List ℕ) (at next : ℕ) → Put part before at now next → after ≡ sets now next rest → after ≡ sets before at (part ++ rest)
+put-then part rest before now after at next p e = e ∙ rw (p .bytes, p .next-is) (sym (sets-append before at part rest))
 
--- six parts, each after the one before
-pub put-image : (n e seed : ℕ) (label : List ℕ) (es : List Entry) (b0 b1 b2 b3 b4 b5 b6 : List ℕ) (p q : ℕ)
-    → b1 ≡ sets b0 0 (fieldOf 1 (bytesOf 8 n)) → b2 ≡ sets b1 11 (fieldOf 2 (bytesOf 4 e)) → b3 ≡ sets b2 18 (fieldOf 3 (bytesOf 8 seed))
-    → Put (labelField label) b3 29 b4 p → b5 ≡ sets b4 p (entryFields (fieldsFor (length es)) es) → q ≡ p + entrySize * length es + 3 * fieldsFor (length es)
-    → b6 ≡ sets b5 q (fieldOf 6 (bytesOf 8 (length es))) → b6 ≡ sets b0 0 (imageOf n e seed label es)
+-- the offset behind a number
+pub behind-8 : (tag x at : ℕ) (before after : List ℕ) (next : ℕ) → Put (fieldOf tag (bytesOf 8 x)) before at after next → next ≡ at + 11
+behind-8 tag x at before after next p = p .next-is ∙ rw (length-field tag (bytesOf 8 x), length-bytes 8 x)
+
+pub behind-4 : (tag x at : ℕ) (before after : List ℕ) (next : ℕ) → Put (fieldOf tag (bytesOf 4 x)) before at after next → next ≡ at + 7
+behind-4 tag x at before after next p = p .next-is ∙ rw (length-field tag (bytesOf 4 x), length-bytes 4 x)
+
+-- the entries' fields, by their bytes and the offset behind them
+fields-put : (es : List Entry) (before after : List ℕ) (at next : ℕ) → after ≡ sets before at (entryFields (fieldsFor (length es)) es)
+    → next ≡ at + entrySize * length es + 3 * fieldsFor (length es) → Put (entryFields (fieldsFor (length es)) es) before at after next
+fields-put es before after at next b n =
+    let l = length-fields (fieldsFor (length es)) es refl in
+    record { bytes = b; next-is = n ∙ rw l (omega arith) }
+
+-- six parts, each behind the one before
+pub put-image : (hd : Head) (label : List ℕ) (es : List Entry) (b0 b1 b2 b3 b4 b5 b6 : List ℕ) (p1 p2 p3 p q end : ℕ)
+    → Put (fieldOf 1 (bytesOf 8 (hd .n))) b0 0 b1 p1 → Put (fieldOf 2 (bytesOf 4 (hd .e))) b1 p1 b2 p2 → Put (fieldOf 3 (bytesOf 8 (hd .seed))) b2 p2 b3 p3
+    → Put (labelField label) b3 p3 b4 p → b5 ≡ sets b4 p (entryFields (fieldsFor (length es)) es) → q ≡ p + entrySize * length es + 3 * fieldsFor (length es)
+    → Put (fieldOf 6 (bytesOf 8 (length es))) b5 q b6 end → b6 ≡ sets b0 0 (imageOf hd label es)
 unfolding imageOf
-put-image n e seed label es b0 b1 b2 b3 b4 b5 b6 p q h1 h2 h3 h4 h5 hq h6 =
-    let l1 : length (fieldOf 1 (bytesOf 8 n)) ≡ 11 = length-field 1 (bytesOf 8 n) ∙ rw length-bytes in
-    let l2 : length (fieldOf 2 (bytesOf 4 e)) ≡ 7 = length-field 2 (bytesOf 4 e) ∙ rw length-bytes in
-    let l3 : length (fieldOf 3 (bytesOf 8 seed)) ≡ 11 = length-field 3 (bytesOf 8 seed) ∙ rw length-bytes in
-    let l5 : length (entryFields (fieldsFor (length es)) es) ≡ entrySize * length es + 3 * fieldsFor (length es) = length-fields (fieldsFor (length es)) es refl in
-    let qe : q ≡ p + (entrySize * length es + 3 * fieldsFor (length es)) = omega arith in
-    let s5 : b6 ≡ sets b4 p (entryFields (fieldsFor (length es)) es ++ fieldOf 6 (bytesOf 8 (length es))) = h6 ∙ rw (h5, qe) (put-two b4 p (entrySize * length es + 3 * fieldsFor (length es)) (entryFields (fieldsFor (length es)) es) (fieldOf 6 (bytesOf 8 (length es))) l5) in
-    let s4 : b6 ≡ sets b3 29 (labelField label ++ (entryFields (fieldsFor (length es)) es ++ fieldOf 6 (bytesOf 8 (length es)))) = s5 ∙ rw (h4 .bytes, h4 .next-is) (put-two b3 29 (length (labelField label)) (labelField label) (entryFields (fieldsFor (length es)) es ++ fieldOf 6 (bytesOf 8 (length es))) refl) in
-    let s3 : b6 ≡ sets b2 18 (fieldOf 3 (bytesOf 8 seed) ++ (labelField label ++ (entryFields (fieldsFor (length es)) es ++ fieldOf 6 (bytesOf 8 (length es))))) = s4 ∙ rw h3 (put-two b2 18 11 (fieldOf 3 (bytesOf 8 seed)) (labelField label ++ (entryFields (fieldsFor (length es)) es ++ fieldOf 6 (bytesOf 8 (length es)))) l3) in
-    let s2 : b6 ≡ sets b1 11 (fieldOf 2 (bytesOf 4 e) ++ (fieldOf 3 (bytesOf 8 seed) ++ (labelField label ++ (entryFields (fieldsFor (length es)) es ++ fieldOf 6 (bytesOf 8 (length es)))))) = s3 ∙ rw h2 (put-two b1 11 7 (fieldOf 2 (bytesOf 4 e)) (fieldOf 3 (bytesOf 8 seed) ++ (labelField label ++ (entryFields (fieldsFor (length es)) es ++ fieldOf 6 (bytesOf 8 (length es))))) l2) in
-    s2 ∙ rw h1 (put-two b0 0 11 (fieldOf 1 (bytesOf 8 n)) (fieldOf 2 (bytesOf 4 e) ++ (fieldOf 3 (bytesOf 8 seed) ++ (labelField label ++ (entryFields (fieldsFor (length es)) es ++ fieldOf 6 (bytesOf 8 (length es)))))) l1)
+put-image hd label es b0 b1 b2 b3 b4 b5 b6 p1 p2 p3 p q end h1 h2 h3 h4 h5 hq h6 =
+    put-then _ _ b0 b1 b6 0 p1 h1
+    (put-then _ _ b1 b2 b6 p1 p2 h2
+    (put-then _ _ b2 b3 b6 p2 p3 h3
+    (put-then _ _ b3 b4 b6 p3 p h4
+    (put-then _ _ b4 b5 b6 p q (fields-put es b4 b5 p q h5 hq) (h6 .bytes)))))
+
+-- a field of a number, as it is put
+pub put-number : (tag k x : ℕ) (before head after : List ℕ) (at : ℕ) → head ≡ sets before at (tag ∷ bytesOf 2 k) → after ≡ sets head (at + 3) (bytesOf k x)
+    → Put (fieldOf tag (bytesOf k x)) before at after (at + (3 + k))
+put-number tag k x before head after at h o =
+    record { bytes = o ∙ rw h (sym (number-then before at tag k x)); next-is = rw (length-field tag (bytesOf k x), length-bytes k x) }
 
 pub put-none : (label before : List ℕ) (at : ℕ) → length label ≡ 0 → Put (labelField label) before at before at
 unfolding labelField

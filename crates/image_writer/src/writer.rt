@@ -7,13 +7,14 @@ ghost use lib.Seq.{sets};
 ghost use Rattle.words.specs.Bytes.{bytesOf};
 ghost use Rattle.image.specs.Format.{entrySize, labelMost, entryBytes, fieldOf, labelField, fieldsFor, imageOf};
 ghost use Rattle.image_writer.specs.Pieces.{entriesTo, Put, PutEntries, PutFields, chunk, sizeOf};
-ghost use Rattle.image_writer.specs.Writing.{writes, writeOf};
+ghost use Rattle.image_writer.specs.Writing.{writes, headOf, writeOf};
 ghost use Rattle.lent.specs.Lent.{wordsIn};
 use crate::dirty::Scan;
 use crate::dirty::scan_table;
 use funnel::table::FunnelTable;
 use image::field::ENTRY_SIZE;
 use image::field::FIELD_ENTRIES;
+use image::head::Head;
 use lent::store::word;
 use refusal::Gate;
 use words::bytes::write16;
@@ -40,7 +41,7 @@ pub fn write(
     bytes: bool,
 ) -> Written
     requires { ⌜ (length (wordsIn bytes (now words) (now lent)) ≡ length (now flags)) × (length (now flags) ≤ 2 ^ 32) × (length (now label) ≤ labelMost) ⌝ }
-    ensures { λ r. ⌜ writes r (now (out .exit)) ≡ writeOf (table .n) (table .e) (table .seed) (now (label .entry)) (wordsIn bytes (now (words .entry)) (now (lent .entry))) (now (flags .entry)) (now (out .entry)) ⌝ }
+    ensures { λ r. ⌜ writes r (now (out .exit)) ≡ writeOf (headOf table) (now (label .entry)) (wordsIn bytes (now (words .entry)) (now (lent .entry))) (now (flags .entry)) (now (out .entry)) ⌝ }
 {
     match scan_table(words, flags, lent, bytes) {
         Scan::Dirty { slot } => {
@@ -53,7 +54,8 @@ pub fn write(
             if out.len() < need {
                 return Written::Room { need: need as u64 };
             }
-            write_all(table, words, flags, label, count, out, lent, bytes);
+            let head = head_of(table);
+            write_all(head, words, flags, label, count, out, lent, bytes);
             return Written::Done { len: need as u64 };
         }
     }
@@ -74,7 +76,7 @@ pub fn image_size(label_len: usize, count: usize) -> usize
 
 // The whole image, into room that is enough. Field 6 is the number of occupied flags, whatever count the state has.
 fn write_all(
-    table: FunnelTable,
+    head: Head,
     words: &[u64],
     flags: &[u8],
     label: &[u8],
@@ -84,36 +86,46 @@ fn write_all(
     bytes: bool,
 )
     requires { ⌜ (length (wordsIn bytes (now words) (now lent)) ≡ length (now flags)) × (count ≡ length (entriesTo (wordsIn bytes (now words) (now lent)) (now flags) 0)) × (length (now label) ≤ labelMost) × (sizeOf (length (now label)) count ≤ length (now out)) ⌝ }
-    ensures { λ r. ⌜ now (out .exit) ≡ sets (now (out .entry)) 0 (imageOf (table .n) (table .e) (table .seed) (now (label .entry)) (entriesTo (wordsIn bytes (now (words .entry)) (now (lent .entry))) (now (flags .entry)) 0)) ⌝ }
+    ensures { λ r. ⌜ now (out .exit) ≡ sets (now (out .entry)) 0 (imageOf head (now (label .entry)) (entriesTo (wordsIn bytes (now (words .entry)) (now (lent .entry))) (now (flags .entry)) 0)) ⌝ }
 {
-    let n = table.n;
-    let e = table.e as u64;
-    let seed = table.seed;
     let entries = count as u64;
-    write_field8(out, 0, 1, n);
-    write_field4(out, 11, 2, e);
-    write_field8(out, 18, 3, seed);
-    let p = write_label(label, out, 29);
-    let q = write_fields(words, flags, count, out, p, lent, bytes);
-    write_field8(out, q, 6, entries);
+    let behind_n = write_field8(out, 0, 1, head.n);
+    let behind_e = write_field4(out, behind_n, 2, head.e);
+    let behind_seed = write_field8(out, behind_e, 3, head.seed);
+    let behind_label = write_label(label, out, behind_seed);
+    let behind_entries = write_fields(words, flags, count, out, behind_label, lent, bytes);
+    write_field8(out, behind_entries, 6, entries);
 }
 
-// A field of a number of eight bytes.
-pub fn write_field8(out: &mut [u8], at: usize, tag: u8, x: u64)
+// What names a table.
+pub fn head_of(table: FunnelTable) -> Head
+    ensures { λ r. ⌜ r ≡ headOf table ⌝ }
+{
+    Head {
+        n: table.n,
+        e: table.e as u64,
+        seed: table.seed,
+    }
+}
+
+// A field of a number of eight bytes; the offset after it.
+pub fn write_field8(out: &mut [u8], at: usize, tag: u8, x: u64) -> usize
     requires { ⌜ at + 11 ≤ length (now out) ⌝ }
-    ensures { λ r. ⌜ now (out .exit) ≡ sets (now (out .entry)) at (fieldOf tag (bytesOf 8 x)) ⌝ }
+    ensures { λ r. ⌜ Put (fieldOf tag (bytesOf 8 x)) (now (out .entry)) at (now (out .exit)) r ⌝ }
 {
     write_head(out, at, tag, 8);
     write64(out, at + 3, x);
+    at + 11
 }
 
-// A field of a number of four bytes.
-pub fn write_field4(out: &mut [u8], at: usize, tag: u8, x: u64)
+// A field of a number of four bytes; the offset after it.
+pub fn write_field4(out: &mut [u8], at: usize, tag: u8, x: u64) -> usize
     requires { ⌜ at + 7 ≤ length (now out) ⌝ }
-    ensures { λ r. ⌜ now (out .exit) ≡ sets (now (out .entry)) at (fieldOf tag (bytesOf 4 x)) ⌝ }
+    ensures { λ r. ⌜ Put (fieldOf tag (bytesOf 4 x)) (now (out .entry)) at (now (out .exit)) r ⌝ }
 {
     write_head(out, at, tag, 4);
     write32(out, at + 3, x);
+    at + 7
 }
 
 // A field's tag and length.

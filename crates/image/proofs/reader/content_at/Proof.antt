@@ -1,6 +1,6 @@
 -- `image::reader::content_at` meets its contract. Assumes nothing.
 use Rattle.image.specs.Cursor.{contentOf}
-use Rattle.image.specs.FrameLaws.{len-6}
+use Rattle.image.specs.KindLaws.{len-6}
 use borrow.Author.Tests.{eq-eqb, ne-eqb}
 use native.Mathlib.Omega.{arith}
 use mathlib.Core.Path.{sym, _∙_}

@@ -56,11 +56,11 @@ add-next c = let f = along-framing (c .before .before .before .before .before .b
 returns-3 : tie.Need-returns-3 Inv-loop μ-loop
 returns-3 c = sym (ap outcomeOf (along-after (c .before .before .before .before .before .before .before .before .before .before .loop .inv) _ _ (sym (c .before .before .before .before .before .before .before .before .before .frame .ensures) ∙ c .before .before .before .before .before .before .before .tag .given .1) _ (sym (c .before .before .before .before .before .content-at .ensures) ∙ c .before .before .before .floor .given .1) (c .before .if1 .taken) (c .if2 .taken)))
 
-head-of-requires : tie.Need-head-of-requires Inv-loop μ-loop
-head-of-requires c κs = search needs
+outline-of-requires : tie.Need-outline-of-requires Inv-loop μ-loop
+outline-of-requires c κs = search needs
 
 returns-4 : tie.Need-returns-4 Inv-loop μ-loop
-returns-4 c = rw (c .head-of .ensures) (along-good (c .before .before .before .before .before .before .before .before .before .before .before .loop .inv) _ _ (sym (c .before .before .before .before .before .before .before .before .before .before .frame .ensures) ∙ c .before .before .before .before .before .before .before .before .tag .given .1) _ (sym (c .before .before .before .before .before .before .content-at .ensures) ∙ c .before .before .before .before .floor .given .1) (c .before .before .if1 .taken) (c .before .if2 .left))
+returns-4 c = rw (c .outline-of .ensures) (along-good (c .before .before .before .before .before .before .before .before .before .before .before .loop .inv) _ _ (sym (c .before .before .before .before .before .before .before .before .before .before .frame .ensures) ∙ c .before .before .before .before .before .before .before .before .tag .given .1) _ (sym (c .before .before .before .before .before .before .content-at .ensures) ∙ c .before .before .before .before .floor .given .1) (c .before .before .if1 .taken) (c .before .if2 .left))
 
 took-requires : tie.Need-took-requires Inv-loop μ-loop
 took-requires c κs = let a = (c .before .before .before .before .before .before .before .before .before .loop .inv) in let f = along-framing a _ _ (sym (c .before .before .before .before .before .before .before .before .frame .ensures) ∙ c .before .before .before .before .before .before .tag .given .1) in
@@ -91,7 +91,7 @@ read-spec =
     enum-known-floor
     add-next
     returns-3
-    head-of-requires
+    outline-of-requires
     returns-4
     took-requires
     loop-less
