@@ -192,7 +192,7 @@ returned counts n e seed cap plan is low high small identities each table words 
     sound : Sound counts (record { table = table; words = words; flags = flags })
     sound = rw ran at (fresh-after is seed cap low high identities)
 
-    -- "u64 identity and seed": what is written has a machine's numbers
+    -- "identity and seed any u64": what is written has a machine's numbers
     fits : Machine (headOf table) words
     fits =
         let t = after-table counts n e seed cap plan identities in

@@ -57,6 +57,10 @@ firstFrom ws fs id (suc tries) slot = pick (holdsAt ws fs id slot) (located.At s
 unfoldable pub firstOf : (ws fs : List ℕ) (id : ℕ) → Located
 firstOf ws fs id = firstFrom ws fs id (length ws) 0
 
+-- 1 where two words are equal, else 0
+unfoldable pub alike : (a b : ℕ) → ℕ
+alike a b = pick (eqb a b) 1 0
+
 -- none of the first words is the identity
 pub record Without (ws : List ℕ) (id i : ℕ) : Type 0 where
   pub none : (j : ℕ) → j < i → getD ws j 0 ≡ id → ⊥

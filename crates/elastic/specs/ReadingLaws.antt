@@ -23,7 +23,7 @@ use Rattle.elastic.specs.declared.route.Sought.{Sought}
 use Rattle.elastic.specs.declared.route.Sought.the-variants as sought
 use Rattle.elastic.specs.declared.route.Located.{Located}
 use Rattle.elastic.specs.declared.route.Located.the-variants as located
-use Rattle.elastic.specs.Reading.{readingBy, readingOf, vacantAt, holdsAt, seekBy, seekFrom, seekOf, firstFrom, firstOf, Without, Probed, Seekable, Read}
+use Rattle.elastic.specs.Reading.{readingBy, readingOf, vacantAt, holdsAt, seekBy, seekFrom, seekOf, firstFrom, firstOf, alike, Without, Probed, Seekable, Read}
 
 -- ---- levels that can be probed
 
@@ -159,6 +159,28 @@ holds-other ws fs id slot h = go (vacantAt fs slot)
     go : (x : Bool) → pick x false (eqb (getD ws slot 0) id) ≡ false
     go true = refl
     go false = ne-eqb (getD ws slot 0) id h
+
+-- one or none, by whether two words are equal
+module _ (a b : ℕ) where
+  pub alike-same : a ≡ b → 1 ≡ alike a b
+  unfolding alike
+  alike-same h = sym (rw (eq-eqb a b h))
+
+  pub alike-other : (a ≡ b → ⊥) → 0 ≡ alike a b
+  unfolding alike
+  alike-other n = sym (rw (ne-eqb a b n))
+
+  module _ (r : ℕ) (e : r ≡ alike a b) where
+    pub alike-most : r ≤ 1
+    unfolding alike
+    alike-most = go (eqb a b) e
+      where
+        go : (x : Bool) → r ≡ pick x 1 0 → r ≤ 1
+        go true h = omega arith
+        go false h = omega arith
+
+    pub alike-none : r ≡ 0 → a ≡ b → ⊥
+    alike-none z h = let w = alike-same h in omega arith
 
 pub without-start : (ws : List ℕ) (id : ℕ) → Without ws id 0
 without-start ws id = record { none = λ j h. absurd (omega arith) }

@@ -3,9 +3,12 @@ ghost use mathlib.Core.Path.{_≡_};
 ghost use mathlib.Core.Bool.{Bool, true, false};
 ghost use Prim.Native.Nat.{ℕ, _+_, _-_, _*_, _<_, _≤_};
 ghost use lib.ListN.{length, getD};
-ghost use Rattle.elastic.specs.Reading.{readingOf, seekOf, holdsAt, firstOf, Without, Probed, Seekable};
+ghost use Rattle.elastic.specs.Reading.{readingOf, seekOf, holdsAt, firstOf, alike, Without, Probed, Seekable};
+ghost use Rattle.lent.specs.Lent.{wordsIn};
 use geometry::elastic::level_length;
 use geometry::elastic::level_offset;
+use lent::store::word;
+use lent::store::words_lent;
 use probe::range::Drawn;
 use probe::range::elastic_draw;
 use refusal::RangeRefusal;
@@ -76,57 +79,59 @@ pub fn seek(key: u64, n: u64, last: u64, cap: u64, flags: &[u8], level: u64, tri
 }
 
 // Whether a slot is occupied by an identity.
-pub fn holds(words: &[u64], flags: &[u8], id: u64, slot: u64) -> bool
-    requires { ⌜ (slot < length (now words)) × (slot < length (now flags)) ⌝ }
-    ensures { λ r. ⌜ r ≡ holdsAt (now (words .entry)) (now (flags .entry)) id slot ⌝ }
+pub fn holds(words: &[u64], flags: &[u8], id: u64, slot: u64, lent: &[u8], bytes: bool) -> bool
+    requires { ⌜ (slot < length (wordsIn bytes (now words) (now lent))) × (slot < length (now flags)) ⌝ }
+    ensures { λ r. ⌜ r ≡ holdsAt (wordsIn bytes (now (words .entry)) (now (lent .entry))) (now (flags .entry)) id slot ⌝ }
 {
     if flags[slot as usize] == 0 {
         return false;
     }
-    words[slot as usize] == id
+    word(bytes, words, lent, slot) == id
 }
 
 // The smallest slot that holds an identity. An identity that is not there is mostly not among the words either, and these are
 // compared without a branch, so that the compiler does several at once.
-pub fn find_identity(words: &[u64], flags: &[u8], id: u64) -> Located
-    requires { ⌜ length (now flags) ≡ length (now words) ⌝ }
-    ensures { λ r. ⌜ r ≡ firstOf (now (words .entry)) (now (flags .entry)) id ⌝ }
+pub fn find_identity(words: &[u64], flags: &[u8], id: u64, lent: &[u8], bytes: bool) -> Located
+    requires { ⌜ length (now flags) ≡ length (wordsIn bytes (now words) (now lent)) ⌝ }
+    ensures { λ r. ⌜ r ≡ firstOf (wordsIn bytes (now (words .entry)) (now (lent .entry))) (now (flags .entry)) id ⌝ }
 {
-    if hits(words, id) == 0 {
+    if hits(words, id, lent, bytes) == 0 {
         return Located::Nowhere;
     }
-    first_holding(words, flags, id)
+    first_holding(words, flags, id, lent, bytes)
 }
 
 // 1 where two words are equal, else 0.
-pub fn same(a: u64, b: u64) -> u64
-    ensures { λ r. ⌜ (r ≤ 1) × (r ≡ 0 → a ≡ b → ⊥) ⌝ }
+fn same(a: u64, b: u64) -> u64
+    ensures { λ r. ⌜ r ≡ alike a b ⌝ }
 {
     if a == b { 1 } else { 0 }
 }
 
 // How many words are the identity.
-fn hits(words: &[u64], id: u64) -> u64
-    ensures { λ r. ⌜ (r ≡ 0 → Without (now (words .entry)) id (length (now (words .entry)))) ⌝ }
+fn hits(words: &[u64], id: u64, lent: &[u8], bytes: bool) -> u64
+    ensures { λ r. ⌜ (r ≡ 0 → Without (wordsIn bytes (now (words .entry)) (now (lent .entry))) id (length (wordsIn bytes (now (words .entry)) (now (lent .entry))))) ⌝ }
 {
+    let n = words_lent(bytes, words, lent);
     let mut found = 0;
     let mut i = 0;
-    while i < words.len() {
-        found += same(words[i], id);
+    while i < n {
+        found += same(word(bytes, words, lent, i), id);
         i += 1;
     }
     found
 }
 
 // The scan slot by slot.
-fn first_holding(words: &[u64], flags: &[u8], id: u64) -> Located
-    requires { ⌜ length (now flags) ≡ length (now words) ⌝ }
-    ensures { λ r. ⌜ r ≡ firstOf (now (words .entry)) (now (flags .entry)) id ⌝ }
+fn first_holding(words: &[u64], flags: &[u8], id: u64, lent: &[u8], bytes: bool) -> Located
+    requires { ⌜ length (now flags) ≡ length (wordsIn bytes (now words) (now lent)) ⌝ }
+    ensures { λ r. ⌜ r ≡ firstOf (wordsIn bytes (now (words .entry)) (now (lent .entry))) (now (flags .entry)) id ⌝ }
 {
+    let n = flags.len() as u64;
     let mut i = 0;
-    while i < words.len() {
-        if holds(words, flags, id, i as u64) {
-            return Located::At(i as u64);
+    while i < n {
+        if holds(words, flags, id, i, lent, bytes) {
+            return Located::At(i);
         }
         i += 1;
     }

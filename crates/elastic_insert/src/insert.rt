@@ -6,6 +6,7 @@ ghost use Rattle.elastic_probe.specs.Phi.{phi};
 ghost use Rattle.elastic.specs.State.{Valid};
 ghost use Rattle.elastic_steps.specs.declared.answer.InsertAnswer.the-variants as answer;
 ghost use Rattle.elastic_steps.specs.Insert.{done, counted, addedTo, Storable, takenAt, insertOf, placeBy, chooseOf};
+ghost use Rattle.lent.specs.Lent.{wordsIn};
 use elastic::route::Located;
 use elastic::route::find_identity;
 use elastic::state::State;
@@ -23,6 +24,7 @@ use elastic_steps::steps::steps;
 use geometry::config::Gated;
 use geometry::elastic::active_batch;
 use geometry::elastic::level_offset;
+use lent::store::put_word;
 use probe::word::elastic_key;
 use words::place::GlobalSlot;
 use words::place::LevelSlot;
@@ -47,7 +49,8 @@ pub fn insert(
             };
         }
         Gated::Passed => {
-            return place(st, counts, words, flags, identity);
+            let mut none: [u8; 0] = [];
+            return place(st, counts, words, flags, identity, &mut none, false);
         }
     }
 }
@@ -59,11 +62,13 @@ pub fn place(
     words: &mut [u64],
     flags: &mut [u8],
     identity: u64,
+    lent: &mut [u8],
+    bytes: bool,
 ) -> Inserted
-    requires { ⌜ Valid st (now counts) (length (now words)) (length (now flags)) ⌝ }
-    ensures { λ r. ⌜ done (r .answer) (r .st) (now (counts .exit)) (now (words .exit)) (now (flags .exit)) ≡ placeBy st (now (counts .entry)) (now (words .entry)) (now (flags .entry)) identity (chooseOf st (now (counts .entry)) (now (words .entry)) (now (flags .entry)) identity) ⌝ }
+    requires { ⌜ Valid st (now counts) (length (wordsIn bytes (now words) (now lent))) (length (now flags)) ⌝ }
+    ensures { λ r. ⌜ done (r .answer) (r .st) (now (counts .exit)) (wordsIn bytes (now (words .exit)) (now (lent .exit))) (now (flags .exit)) ≡ placeBy st (now (counts .entry)) (wordsIn bytes (now (words .entry)) (now (lent .entry))) (now (flags .entry)) identity (chooseOf st (now (counts .entry)) (wordsIn bytes (now (words .entry)) (now (lent .entry))) (now (flags .entry)) identity) ⌝ }
 {
-    match choose(st, counts, words, flags, identity) {
+    match choose(st, counts, words, flags, identity, lent, bytes) {
         Chosen::Refused(refusal) => {
             return Inserted {
                 answer: InsertAnswer::Refused(refusal),
@@ -84,7 +89,7 @@ pub fn place(
                     st,
                 };
             }
-            store(counts, words, flags, level, slot, identity);
+            store(counts, words, flags, level, slot, identity, lent, bytes);
             return taken(st, case, level, slot, probe, position);
         }
     }
@@ -98,18 +103,20 @@ fn store(
     level: u64,
     slot: u64,
     identity: u64,
+    lent: &mut [u8],
+    bytes: bool,
 )
-    requires { ⌜ Storable (now counts) level × (slot < length (now words)) × (slot < length (now flags)) ⌝ }
-    ensures { λ r. ⌜ (now (counts .exit) ≡ addedTo (now (counts .entry)) level) × (now (words .exit) ≡ set (now (words .entry)) slot identity) × (now (flags .exit) ≡ set (now (flags .entry)) slot 1) ⌝ }
+    requires { ⌜ Storable (now counts) level × (slot < length (wordsIn bytes (now words) (now lent))) × (slot < length (now flags)) ⌝ }
+    ensures { λ r. ⌜ (now (counts .exit) ≡ addedTo (now (counts .entry)) level) × (wordsIn bytes (now (words .exit)) (now (lent .exit)) ≡ set (wordsIn bytes (now (words .entry)) (now (lent .entry))) slot identity) × (now (flags .exit) ≡ set (now (flags .entry)) slot 1) ⌝ }
 {
     let members = counts[level as usize];
     counts[level as usize] = members + 1;
-    words[slot as usize] = identity;
+    put_word(bytes, words, lent, slot, identity);
     flags[slot as usize] = 1;
 }
 
 // The answer of a slot that was taken, and the state with one member more.
-pub fn taken(
+fn taken(
     st: State,
     case: Case,
     level: u64,
@@ -156,7 +163,7 @@ fn insertion_of(
 }
 
 // The position of a probe of a level, which fits a word in every table.
-pub fn position_of(level: u64, probe: LogicalProbe) -> u64
+fn position_of(level: u64, probe: LogicalProbe) -> u64
     requires { ⌜ (level < 32) × (probe .0 < 8192) ⌝ }
     ensures { λ r. ⌜ r ≡ phi (level + 1) (probe .0 + 1) ⌝ }
 {
@@ -168,11 +175,19 @@ pub fn position_of(level: u64, probe: LogicalProbe) -> u64
 }
 
 // The slot for an identity.
-fn choose(st: State, counts: &[u64; 32], words: &[u64], flags: &[u8], identity: u64) -> Chosen
-    requires { ⌜ Valid st (now counts) (length (now words)) (length (now flags)) ⌝ }
-    ensures { λ r. ⌜ r ≡ chooseOf st (now (counts .entry)) (now (words .entry)) (now (flags .entry)) identity ⌝ }
+fn choose(
+    st: State,
+    counts: &[u64; 32],
+    words: &[u64],
+    flags: &[u8],
+    identity: u64,
+    lent: &[u8],
+    bytes: bool,
+) -> Chosen
+    requires { ⌜ Valid st (now counts) (length (wordsIn bytes (now words) (now lent))) (length (now flags)) ⌝ }
+    ensures { λ r. ⌜ r ≡ chooseOf st (now (counts .entry)) (wordsIn bytes (now (words .entry)) (now (lent .entry))) (now (flags .entry)) identity ⌝ }
 {
-    match find_identity(words, flags, identity) {
+    match find_identity(words, flags, identity, lent, bytes) {
         Located::At(slot) => {
             return Chosen::Refused(InsertRefusal::Duplicate(GlobalSlot(slot)));
         }

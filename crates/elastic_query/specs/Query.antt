@@ -87,10 +87,14 @@ module _ (route : ℕ → ℕ → Reading) (holds : ℕ → Bool) (levels : ℕ)
   unfoldable pub positionsOf : (cap : ℕ) → QueryAnswer
   positionsOf cap = walkOf cap 1 nothing
 
+-- the walk of an identity over all positions up to the cap
+abbrev pub lookOf : State → (ws fs : List ℕ) → (id : ℕ) → QueryAnswer
+lookOf st ws fs id =
+    positionsOf (readingOf (st .n) (elasticKeyOf (st .seed) id) (st .limits .«range_word_cap»)) (holdsAt ws fs id) (st .plan .levels) (st .limits .«hit_query_position_cap»)
+
 abbrev pub queryBy : Gated → State → List ℕ → List ℕ → (id : ℕ) → QueryAnswer
 queryBy (gated.Refused g) st ws fs id = answer.Refused g
-queryBy gated.Passed st ws fs id =
-    positionsOf (readingOf (st .n) (elasticKeyOf (st .seed) id) (st .limits .«range_word_cap»)) (holdsAt ws fs id) (st .plan .levels) (st .limits .«hit_query_position_cap»)
+queryBy gated.Passed st ws fs id = lookOf st ws fs id
 
 -- "Elastic query: RANGE as met, else 21", after 1 to 7
 unfoldable pub queryOf : State → List ℕ → List ℕ → List ℕ → (id : ℕ) → QueryAnswer

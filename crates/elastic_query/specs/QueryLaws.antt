@@ -32,7 +32,7 @@ use Rattle.elastic_query.specs.declared.query.Scan.{Scan}
 use Rattle.elastic_query.specs.declared.query.Scan.the-variants as scan
 use Rattle.elastic.specs.State.{gateOf, Valid}
 use Rattle.elastic.specs.Reading.{readingOf, holdsAt, Probed}
-use Rattle.elastic_query.specs.Query.{within, foundAt, Tally, nothing, counted, walkBy, walkOf, positionsOf, queryBy, queryOf}
+use Rattle.elastic_query.specs.Query.{within, foundAt, Tally, nothing, counted, walkBy, walkOf, positionsOf, lookOf, queryBy, queryOf}
 use Rattle.elastic_query.specs.QuerySteps.{upTo, from, charged, Missed, Fine, scanTold, scanFine, Scanned, Queried, Scanning, Visiting, endOf}
 
 -- ---- the walk, position by position
@@ -379,7 +379,11 @@ module _ (st : State) (cs ws fs : List ℕ) (id : ℕ) where
   unfolding queryOf
   query-gate g h = sym (rw h)
 
-  pub query-walk : (x : QueryAnswer) (key levels : ℕ) → gateOf st cs (length ws) (length fs) ≡ gated.Passed → key ≡ elasticKeyOf (st .seed) id → levels ≡ st .plan .levels
-      → x ≡ positionsOf (readingOf (st .n) key (st .limits .«range_word_cap»)) (holdsAt ws fs id) levels (st .limits .«hit_query_position_cap») → x ≡ queryOf st cs ws fs id
+  pub query-look : (x : QueryAnswer) → gateOf st cs (length ws) (length fs) ≡ gated.Passed → x ≡ lookOf st ws fs id → x ≡ queryOf st cs ws fs id
   unfolding queryOf
-  query-walk x key levels h a b w = w ∙ sym (rw (h, ← a, ← b))
+  query-look x h w = w ∙ sym (rw h)
+
+-- the walk by the key and the number of levels that the code has
+pub look-is : (st : State) (ws fs : List ℕ) (id key levels : ℕ) (x : QueryAnswer) → key ≡ elasticKeyOf (st .seed) id → levels ≡ st .plan .levels
+    → x ≡ positionsOf (readingOf (st .n) key (st .limits .«range_word_cap»)) (holdsAt ws fs id) levels (st .limits .«hit_query_position_cap») → x ≡ lookOf st ws fs id
+look-is st ws fs id key levels x a b w = w ∙ rw (a, b)

@@ -10,7 +10,8 @@ ghost use lib.ListN.{length};
 ghost use Rattle.elastic_probe.specs.TreeLaws.{Node, Next, Ends};
 ghost use Rattle.elastic.specs.State.{Valid};
 ghost use Rattle.elastic.specs.Reading.{readingOf, holdsAt};
-ghost use Rattle.elastic_query.specs.Query.{positionsOf, queryOf};
+ghost use Rattle.lent.specs.Lent.{wordsIn};
+ghost use Rattle.elastic_query.specs.Query.{positionsOf, lookOf, queryOf};
 ghost use Rattle.elastic_query.specs.QuerySteps.{from, charged, endOf, Missed, Scanned, Queried, Scanning, Visiting};
 use elastic::route::Reading;
 use elastic::route::holds;
@@ -78,26 +79,43 @@ pub fn query(
             return QueryAnswer::Refused(gate);
         }
         Gated::Passed => {
-            let plan = st.plan;
-            let limits = st.limits;
-            let key = elastic_key(st.seed, identity);
-            let look = Lookup {
-                id: identity,
-                key,
-                n: st.n,
-                last: plan.levels - 1,
-                word_cap: limits.range_word_cap,
-                cap: limits.hit_query_position_cap,
-            };
-            return find(words, flags, look);
+            let none: [u8; 0] = [];
+            return look(st, counts, words, flags, identity, &none, false);
         }
     }
 }
 
+// The query of a table whose tests passed.
+pub fn look(
+    st: State,
+    counts: &[u64; 32],
+    words: &[u64],
+    flags: &[u8],
+    identity: u64,
+    lent: &[u8],
+    bytes: bool,
+) -> QueryAnswer
+    requires { ⌜ Valid st (now counts) (length (wordsIn bytes (now words) (now lent))) (length (now flags)) ⌝ }
+    ensures { λ r. ⌜ r ≡ lookOf st (wordsIn bytes (now (words .entry)) (now (lent .entry))) (now (flags .entry)) identity ⌝ }
+{
+    let plan = st.plan;
+    let limits = st.limits;
+    let key = elastic_key(st.seed, identity);
+    let look = Lookup {
+        id: identity,
+        key,
+        n: st.n,
+        last: plan.levels - 1,
+        word_cap: limits.range_word_cap,
+        cap: limits.hit_query_position_cap,
+    };
+    find(words, flags, look, lent, bytes)
+}
+
 // The walk over positions 1, 2, .. up to the cap.
-fn find(words: &[u64], flags: &[u8], look: Lookup) -> QueryAnswer
-    requires { ⌜ Queried (look .n) (look .last) (look .«word_cap») (look .cap) (length (now words)) (length (now flags)) × (0 < look .cap) ⌝ }
-    ensures { λ r. ⌜ r ≡ positionsOf (readingOf (look .n) (look .key) (look .«word_cap»)) (holdsAt (now (words .entry)) (now (flags .entry)) (look .id)) (look .last + 1) (look .cap) ⌝ }
+fn find(words: &[u64], flags: &[u8], look: Lookup, lent: &[u8], bytes: bool) -> QueryAnswer
+    requires { ⌜ Queried (look .n) (look .last) (look .«word_cap») (look .cap) (length (wordsIn bytes (now words) (now lent))) (length (now flags)) × (0 < look .cap) ⌝ }
+    ensures { λ r. ⌜ r ≡ positionsOf (readingOf (look .n) (look .key) (look .«word_cap»)) (holdsAt (wordsIn bytes (now (words .entry)) (now (lent .entry))) (now (flags .entry)) (look .id)) (look .last + 1) (look .cap) ⌝ }
 {
     match route(
         look.key,
@@ -111,7 +129,7 @@ fn find(words: &[u64], flags: &[u8], look: Lookup) -> QueryAnswer
             return QueryAnswer::Range(refusal);
         }
         Reading::Slot { slot, words: spent } => {
-            if holds(words, flags, look.id, slot) {
+            if holds(words, flags, look.id, slot, lent, bytes) {
                 let found = Finding {
                     position: 1,
                     global_slot: GlobalSlot(slot),
@@ -121,16 +139,23 @@ fn find(words: &[u64], flags: &[u8], look: Lookup) -> QueryAnswer
                 };
                 return QueryAnswer::Found(found);
             }
-            return descend(words, flags, look, spent);
+            return descend(words, flags, look, spent, lent, bytes);
         }
     }
 }
 
 // The walk from position 3 on, node by node.
-fn descend(words: &[u64], flags: &[u8], look: Lookup, spent: u64) -> QueryAnswer
-    requires { ⌜ Queried (look .n) (look .last) (look .«word_cap») (look .cap) (length (now words)) (length (now flags))
-        × Missed (readingOf (look .n) (look .key) (look .«word_cap»)) (holdsAt (now words) (now flags) (look .id)) 0 0 × (spent ≤ 8) ⌝ }
-    ensures { λ r. ⌜ r ≡ from (readingOf (look .n) (look .key) (look .«word_cap»)) (holdsAt (now (words .entry)) (now (flags .entry)) (look .id)) (look .last + 1) (look .cap) 3 0 spent ⌝ }
+fn descend(
+    words: &[u64],
+    flags: &[u8],
+    look: Lookup,
+    spent: u64,
+    lent: &[u8],
+    bytes: bool,
+) -> QueryAnswer
+    requires { ⌜ Queried (look .n) (look .last) (look .«word_cap») (look .cap) (length (wordsIn bytes (now words) (now lent))) (length (now flags))
+        × Missed (readingOf (look .n) (look .key) (look .«word_cap»)) (holdsAt (wordsIn bytes (now words) (now lent)) (now flags) (look .id)) 0 0 × (spent ≤ 8) ⌝ }
+    ensures { λ r. ⌜ r ≡ from (readingOf (look .n) (look .key) (look .«word_cap»)) (holdsAt (wordsIn bytes (now (words .entry)) (now (lent .entry))) (now (flags .entry)) (look .id)) (look .last + 1) (look .cap) 3 0 spent ⌝ }
 {
     let cap = look.cap;
     let mut b = 3;
@@ -139,7 +164,7 @@ fn descend(words: &[u64], flags: &[u8], look: Lookup, spent: u64) -> QueryAnswer
     let mut m = 0;
     let mut w = spent;
     while b <= cap {
-        match along(words, flags, look, b, j, q, m, w) {
+        match along(words, flags, look, b, j, q, m, w, lent, bytes) {
             Scan::Ends(answer) => {
                 return answer;
             }
@@ -169,11 +194,13 @@ fn along(
     q: u64,
     mapped: u64,
     spent: u64,
+    lent: &[u8],
+    bytes: bool,
 ) -> Scan
-    requires { ⌜ Queried (look .n) (look .last) (look .«word_cap») (look .cap) (length (now words)) (length (now flags))
-        × Scanning (readingOf (look .n) (look .key) (look .«word_cap»)) (holdsAt (now words) (now flags) (look .id)) (look .cap) b j q mapped spent ⌝ }
-    ensures { λ r. ⌜ Scanned (from (readingOf (look .n) (look .key) (look .«word_cap»)) (holdsAt (now (words .entry)) (now (flags .entry)) (look .id)) (look .last + 1) (look .cap) b mapped spent) r
-        (λ m w. from (readingOf (look .n) (look .key) (look .«word_cap»)) (holdsAt (now (words .entry)) (now (flags .entry)) (look .id)) (look .last + 1) (look .cap) (b + 2 * (q / 4)) m w)
+    requires { ⌜ Queried (look .n) (look .last) (look .«word_cap») (look .cap) (length (wordsIn bytes (now words) (now lent))) (length (now flags))
+        × Scanning (readingOf (look .n) (look .key) (look .«word_cap»)) (holdsAt (wordsIn bytes (now words) (now lent)) (now flags) (look .id)) (look .cap) b j q mapped spent ⌝ }
+    ensures { λ r. ⌜ Scanned (from (readingOf (look .n) (look .key) (look .«word_cap»)) (holdsAt (wordsIn bytes (now (words .entry)) (now (lent .entry))) (now (flags .entry)) (look .id)) (look .last + 1) (look .cap) b mapped spent) r
+        (λ m w. from (readingOf (look .n) (look .key) (look .«word_cap»)) (holdsAt (wordsIn bytes (now (words .entry)) (now (lent .entry))) (now (flags .entry)) (look .id)) (look .last + 1) (look .cap) (b + 2 * (q / 4)) m w)
         (b + 2 * (q / 4)) ⌝ }
 {
     let end = scan_end(look.last, look.cap, b, q);
@@ -181,7 +208,7 @@ fn along(
     let mut m = mapped;
     let mut w = spent;
     while i < end {
-        match visit(words, flags, look, b + i, i, j, m, w) {
+        match visit(words, flags, look, b + i, i, j, m, w, lent, bytes) {
             Scan::Ends(answer) => {
                 return Scan::Ends(answer);
             }
@@ -202,7 +229,7 @@ fn along(
 }
 
 // Where the mapped positions of a node end: at its middle, past the last level, or at the cap.
-pub fn scan_end(last: u64, cap: u64, b: u64, q: u64) -> u64
+fn scan_end(last: u64, cap: u64, b: u64, q: u64) -> u64
     requires { ⌜ (last < 32) × (b ≤ cap) × (cap ≤ 984263340) ⌝ }
     ensures { λ r. ⌜ r ≡ endOf (last + 1) cap b q ⌝ }
 {
@@ -225,11 +252,13 @@ fn visit(
     j: u64,
     mapped: u64,
     spent: u64,
+    lent: &[u8],
+    bytes: bool,
 ) -> Scan
-    requires { ⌜ Queried (look .n) (look .last) (look .«word_cap») (look .cap) (length (now words)) (length (now flags))
+    requires { ⌜ Queried (look .n) (look .last) (look .«word_cap») (look .cap) (length (wordsIn bytes (now words) (now lent))) (length (now flags))
         × Visiting (look .last + 1) (look .cap) position i j mapped spent ⌝ }
-    ensures { λ r. ⌜ Scanned (from (readingOf (look .n) (look .key) (look .«word_cap»)) (holdsAt (now (words .entry)) (now (flags .entry)) (look .id)) (look .last + 1) (look .cap) position mapped spent) r
-        (λ m w. from (readingOf (look .n) (look .key) (look .«word_cap»)) (holdsAt (now (words .entry)) (now (flags .entry)) (look .id)) (look .last + 1) (look .cap) (position + 1) m w)
+    ensures { λ r. ⌜ Scanned (from (readingOf (look .n) (look .key) (look .«word_cap»)) (holdsAt (wordsIn bytes (now (words .entry)) (now (lent .entry))) (now (flags .entry)) (look .id)) (look .last + 1) (look .cap) position mapped spent) r
+        (λ m w. from (readingOf (look .n) (look .key) (look .«word_cap»)) (holdsAt (wordsIn bytes (now (words .entry)) (now (lent .entry))) (now (flags .entry)) (look .id)) (look .last + 1) (look .cap) (position + 1) m w)
         (position + 1) ⌝ }
 {
     let probe = LogicalProbe(j - 1);
@@ -239,7 +268,7 @@ fn visit(
         }
         Reading::Slot { slot, words: taken } => {
             let total = spent + charge(i, j, taken);
-            if holds(words, flags, look.id, slot) {
+            if holds(words, flags, look.id, slot, lent, bytes) {
                 let found = Finding {
                     position,
                     global_slot: GlobalSlot(slot),
@@ -258,7 +287,7 @@ fn visit(
 }
 
 // The words that a reading adds: none at level 0 probe 0, which the first position has read.
-pub fn charge(i: u64, j: u64, taken: u64) -> u64
+fn charge(i: u64, j: u64, taken: u64) -> u64
     requires { ⌜ (0 < i) × (0 < j) × (i < 4294967296) × (j < 4294967296) ⌝ }
     ensures { λ r. ⌜ r ≡ charged i j taken ⌝ }
 {
@@ -269,7 +298,7 @@ pub fn charge(i: u64, j: u64, taken: u64) -> u64
 }
 
 // From the middle of a node to the next node.
-pub fn step(b: u64, j: u64, q: u64) -> Stretch
+fn step(b: u64, j: u64, q: u64) -> Stretch
     requires { ⌜ (Node b j q) × (b < 2 ^ 60) ⌝ }
     ensures { λ r. ⌜ (Next (b + 2 * (q / 4)) (r .b) (r .j) (r .q)) × (b < r .b) ⌝ }
 {

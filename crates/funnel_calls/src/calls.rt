@@ -9,6 +9,7 @@ use funnel::table::InsertAnswer;
 use funnel::table::OpenAnswer;
 use funnel::table::PlaceAnswer;
 use funnel::table::SearchAnswer;
+use funnel_search::search::find;
 use geometry::config::Gated;
 use geometry::funnel::FunnelPlanned;
 use geometry_funnel::plan::funnel_gate;
@@ -65,13 +66,10 @@ pub fn search(
 {
     match table_gate(table, counts, words.len() as u64, flags.len() as u64) {
         Gated::Refused(g) => SearchAnswer::Gate(g),
-        Gated::Passed => SearchAnswer::Found(funnel_numbers::search::find(
-            table,
-            counts,
-            words,
-            flags,
-            identity,
-        )),
+        Gated::Passed => {
+            let none: [u8; 0] = [];
+            SearchAnswer::Found(find(table, counts, words, flags, identity, &none, false))
+        }
     }
 }
 
@@ -87,13 +85,18 @@ pub fn insert(
 {
     match table_gate(table, counts, words.len() as u64, flags.len() as u64) {
         Gated::Refused(g) => InsertAnswer::Gate(g),
-        Gated::Passed => InsertAnswer::Done(funnel_numbers::insert::insert(
-            table,
-            counts,
-            words,
-            flags,
-            identity,
-        )),
+        Gated::Passed => {
+            let mut none: [u8; 0] = [];
+            InsertAnswer::Done(funnel_insert::insert::insert(
+                table,
+                counts,
+                words,
+                flags,
+                identity,
+                &mut none,
+                false,
+            ))
+        }
     }
 }
 
@@ -117,14 +120,23 @@ pub fn place_all(
         slots.len() as u64,
     ) {
         Gated::Refused(g) => PlaceAnswer::Gate(g),
-        Gated::Passed => PlaceAnswer::Done(funnel_numbers::insert::place_all(
-            table,
-            counts,
-            words,
-            flags,
-            identities,
-            slots,
-        )),
+        Gated::Passed => {
+            let mut none: [u8; 0] = [];
+            let asked: [u8; 0] = [];
+            let mut told: [u8; 0] = [];
+            PlaceAnswer::Done(funnel_place::place_all::place_all(
+                table,
+                counts,
+                words,
+                flags,
+                identities,
+                slots,
+                &mut none,
+                &asked,
+                &mut told,
+                false,
+            ))
+        }
     }
 }
 

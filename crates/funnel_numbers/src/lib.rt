@@ -1,7 +1,5 @@
 // Funnel tables whose words are numbers: the engine with no bytes lent. Each function is one call.
 //
 //     search.rt     walks and searches
-//     insert.rt     insertions
 
-pub mod insert;
 pub mod search;

@@ -7,33 +7,35 @@ ghost use lib.ListN.{length};
 ghost use Rattle.gridder_calls.specs.Calls.{callGate, searchCall, left, countedIn, insertCall};
 ghost use Rattle.lent.specs.Lent.{wordsOf};
 ghost use Rattle.gridder_state.specs.State.{holdsFunnel};
+use crate::enter::Entered;
+use crate::enter::enter;
 use funnel::table::FunnelTable;
 use funnel::table::Insertion;
 use funnel_calls::calls::table_gate;
+use funnel_insert::insert::put;
+use funnel_search::search::find;
 use geometry::config::Gated;
 use gridder_answer::answer::ANSWER_LENGTH;
 use gridder_answer::answer::say_gate;
 use gridder_answer::answer::say_insertion;
 use gridder_answer::answer::say_search;
 use gridder_answer::gate::block_gate;
-use gridder_state::state::read_counts;
-use gridder_state::state::table_in;
 use gridder_state::state::write_count;
-use lent::word::word_count;
-use lent_insert::put::put;
-use lent_search::walk::find;
 
 pub fn search_in(state: &[u8], words: &[u8], flags: &[u8], identity: u64, answer: &mut [u8]) -> u64
     requires { ⌜ holdsFunnel (now state) ≡ true ⌝ }
     ensures { λ r. ⌜ reply r (now (answer .exit)) ≡ searchCall (now (state .entry)) (now (words .entry)) (now (flags .entry)) identity (now (answer .entry)) ⌝ }
 {
-    let table = table_in(state);
     let mut counts = [0; 118];
-    read_counts(state, &mut counts);
-    let entries = word_count(words.len() as u64);
-    match call_gate(table, &counts, entries, flags.len() as u64, answer.len()) {
-        Gated::Refused(g) => say_gate(answer, g),
-        Gated::Passed => say_search(answer, find(table, &counts, words, flags, identity)),
+    match enter(state, &mut counts, words.len(), flags.len(), answer.len()) {
+        Entered::Refused(g) => say_gate(answer, g),
+        Entered::Open(table) => {
+            let none: [u64; 0] = [];
+            say_search(
+                answer,
+                find(table, &counts, &none, flags, identity, words, true),
+            )
+        }
     }
 }
 
@@ -64,15 +66,22 @@ pub fn insert_in(
     requires { ⌜ holdsFunnel (now state) ≡ true ⌝ }
     ensures { λ r. ⌜ left r (now (answer .exit)) (now (state .exit)) (wordsOf (now (words .exit))) (now (flags .exit)) ≡ insertCall (now (state .entry)) (now (words .entry)) (now (flags .entry)) identity (now (answer .entry)) ⌝ }
 {
-    let table = table_in(state);
     let mut counts = [0; 118];
-    read_counts(state, &mut counts);
-    let entries = word_count(words.len() as u64);
-    match call_gate(table, &counts, entries, flags.len() as u64, answer.len()) {
-        Gated::Refused(g) => say_gate(answer, g),
-        Gated::Passed => {
+    match enter(state, &mut counts, words.len(), flags.len(), answer.len()) {
+        Entered::Refused(g) => say_gate(answer, g),
+        Entered::Open(table) => {
             let count = table.count;
-            let done = put(table, count, &counts, words, flags, identity);
+            let mut none: [u64; 0] = [];
+            let done = put(
+                table,
+                count,
+                &counts,
+                &mut none,
+                flags,
+                identity,
+                words,
+                true,
+            );
             count_insertion(state, done, count);
             say_insertion(answer, done)
         }

@@ -1,3 +1,5 @@
 pub mod Calls
 pub mod CallLaws
+pub mod Enter
+pub mod EnterLaws
 pub mod OpenLaws

@@ -7,12 +7,15 @@ ghost use Rattle.elastic.specs.State.{freshOf};
 ghost use Rattle.lent.specs.Lent.{wordsOf};
 ghost use Rattle.gridder_answer.specs.Answer.{reply};
 ghost use Rattle.gridder_calls.specs.Calls.{left};
-ghost use Rattle.gridder_elastic.specs.Calls.{callGate, queryCall, countedIn, insertCall, openBlocksGate, Fresh};
+ghost use Rattle.gridder_elastic.specs.Calls.{queryCall, countedIn, insertCall, openBlocksGate, Fresh};
 ghost use Rattle.gridder_elastic_state.specs.State.{holdsElastic};
+use crate::enter::Entered;
+use crate::enter::enter;
 use elastic::state::Limits;
 use elastic::state::State;
 use elastic::state::open_gate;
-use elastic::state::state_gate;
+use elastic_insert::insert::place;
+use elastic_query::query::look;
 use elastic_steps::answer::InsertAnswer;
 use geometry::config::Gated;
 use geometry::config::max_insertions;
@@ -22,14 +25,9 @@ use gridder_answer::answer::say_gate;
 use gridder_answer::gate::block_gate;
 use gridder_elastic_answer::say::say_insert;
 use gridder_elastic_answer::say::say_query;
-use gridder_elastic_state::state::read_counts;
-use gridder_elastic_state::state::state_in;
 use gridder_elastic_state::state::write_counts;
 use gridder_elastic_state::state::write_state;
 use gridder_state::state::STATE_LENGTH;
-use lent::word::word_count;
-use lent_elastic::insert::place;
-use lent_elastic::query::look;
 use words::clear::clear_bytes;
 use words::power::ceil_log2;
 
@@ -37,21 +35,17 @@ pub fn query_in(state: &[u8], words: &[u8], flags: &[u8], identity: u64, answer:
     requires { ⌜ holdsElastic (now state) ≡ true ⌝ }
     ensures { λ r. ⌜ reply r (now (answer .exit)) ≡ queryCall (now (state .entry)) (now (words .entry)) (now (flags .entry)) identity (now (answer .entry)) ⌝ }
 {
-    let st = state_in(state);
     let mut counts = [0; 32];
-    read_counts(state, &mut counts);
-    let entries = word_count(words.len() as u64) as usize;
-    match call_gate(st, &counts, entries, flags.len(), answer.len()) {
-        Gated::Refused(g) => say_gate(answer, g),
-        Gated::Passed => say_query(answer, look(st, &counts, words, flags, identity)),
+    match enter(state, &mut counts, words.len(), flags.len(), answer.len()) {
+        Entered::Refused(g) => say_gate(answer, g),
+        Entered::Open(st) => {
+            let none: [u64; 0] = [];
+            say_query(
+                answer,
+                look(st, &counts, &none, flags, identity, words, true),
+            )
+        }
     }
-}
-
-// The base's tests of a state, and the length of the answer block.
-fn call_gate(st: State, counts: &[u64; 32], words: usize, flags: usize, answer: usize) -> Gated
-    ensures { λ r. ⌜ r ≡ callGate st (now (counts .entry)) words flags answer ⌝ }
-{
-    block_gate(state_gate(st, counts, words, flags), answer, ANSWER_LENGTH)
 }
 
 pub fn insert_in(
@@ -64,14 +58,12 @@ pub fn insert_in(
     requires { ⌜ holdsElastic (now state) ≡ true ⌝ }
     ensures { λ r. ⌜ left r (now (answer .exit)) (now (state .exit)) (wordsOf (now (words .exit))) (now (flags .exit)) ≡ insertCall (now (state .entry)) (now (words .entry)) (now (flags .entry)) identity (now (answer .entry)) ⌝ }
 {
-    let st = state_in(state);
     let mut counts = [0; 32];
-    read_counts(state, &mut counts);
-    let entries = word_count(words.len() as u64) as usize;
-    match call_gate(st, &counts, entries, flags.len(), answer.len()) {
-        Gated::Refused(g) => say_gate(answer, g),
-        Gated::Passed => {
-            let done = place(st, &mut counts, words, flags, identity);
+    match enter(state, &mut counts, words.len(), flags.len(), answer.len()) {
+        Entered::Refused(g) => say_gate(answer, g),
+        Entered::Open(st) => {
+            let mut none: [u64; 0] = [];
+            let done = place(st, &mut counts, &mut none, flags, identity, words, true);
             let said = done.answer;
             let after = done.st;
             count_insertion(state, said, after.count, &counts);

@@ -1,19 +1,15 @@
 // The placement of many identities, for a state block that holds a funnel table.
 ghost use mathlib.Core.Bool.{true};
 ghost use mathlib.Core.Path.{_≡_};
-ghost use Rattle.gridder_place.specs.Place.{roomFor, placeCallGate, allLeft, placeCall};
+ghost use Rattle.gridder_place.specs.Place.{roomFor, allLeft, placeCall};
 ghost use Rattle.lent.specs.Lent.{wordsOf};
 ghost use Rattle.gridder_state.specs.State.{holdsFunnel};
-use funnel::table::FunnelTable;
-use geometry::config::Gated;
+use funnel_place::place_all::place_all;
 use gridder_answer::answer::say_gate;
 use gridder_answer::answer::say_placement;
-use gridder_calls::funnels::call_gate;
-use gridder_state::state::read_counts;
-use gridder_state::state::table_in;
+use gridder_calls::enter::Entered;
+use gridder_calls::enter::enter;
 use gridder_state::state::write_count;
-use lent::word::word_count;
-use lent_insert::place_all::place_all;
 use refusal::Gate;
 
 pub fn place_in(
@@ -27,51 +23,33 @@ pub fn place_in(
     requires { ⌜ holdsFunnel (now state) ≡ true ⌝ }
     ensures { λ r. ⌜ allLeft r (now (answer .exit)) (now (state .exit)) (wordsOf (now (words .exit))) (now (flags .exit)) (wordsOf (now (slots .exit))) ≡ placeCall (now (state .entry)) (now (words .entry)) (now (flags .entry)) (now (identities .entry)) (now (slots .entry)) (now (answer .entry)) ⌝ }
 {
-    let table = table_in(state);
     let mut counts = [0; 118];
-    read_counts(state, &mut counts);
-    let entries = word_count(words.len() as u64);
-    let given = identities.len() as u64;
-    let room = slots.len() as u64;
-    match place_call_gate(
-        table,
-        &counts,
-        entries,
-        flags.len() as u64,
-        given,
-        room,
-        answer.len(),
-    ) {
-        Gated::Refused(g) => say_gate(answer, g),
-        Gated::Passed => {
-            let all = place_all(table, &counts, words, flags, identities, slots);
+    match enter(state, &mut counts, words.len(), flags.len(), answer.len()) {
+        Entered::Refused(g) => say_gate(answer, g),
+        Entered::Open(table) => {
+            let given = identities.len() as u64;
+            if !room_for(given, slots.len() as u64) {
+                return say_gate(answer, Gate::State);
+            }
+            let mut none: [u64; 0] = [];
+            let asked: [u64; 0] = [];
+            let mut told: [u64; 0] = [];
+            let all = place_all(
+                table,
+                &counts,
+                &mut none,
+                flags,
+                &asked,
+                &mut told,
+                words,
+                identities,
+                slots,
+                true,
+            );
             let after = all.table;
             write_count(state, after.count);
             let done = all.answer;
             say_placement(answer, done, given / 8)
-        }
-    }
-}
-
-// The tests of a placement: 1 to 7, the length of the answer block, and room for the slots.
-fn place_call_gate(
-    table: FunnelTable,
-    counts: &[u64; 118],
-    words: u64,
-    flags: u64,
-    identities: u64,
-    slots: u64,
-    answer: usize,
-) -> Gated
-    ensures { λ r. ⌜ r ≡ placeCallGate table (now (counts .entry)) words flags identities slots answer ⌝ }
-{
-    match call_gate(table, counts, words, flags, answer) {
-        Gated::Refused(g) => Gated::Refused(g),
-        Gated::Passed => {
-            if room_for(identities, slots) {
-                return Gated::Passed;
-            }
-            Gated::Refused(Gate::State)
         }
     }
 }

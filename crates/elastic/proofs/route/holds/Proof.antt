@@ -10,16 +10,11 @@ shared-slice-read-if1 c = search needs
 returns : tie.Need-returns
 returns c = holds-vacant _ _ _ _ (c .if1 .taken)
 
-mul-result : tie.Need-mul-result
-mul-result c = search needs
-
-shared-slice-read-result : tie.Need-shared-slice-read-result
-shared-slice-read-result c = search needs
+word-requires : tie.Need-word-requires
+word-requires c κs = search needs
 
 returns-2 : tie.Need-returns-2
-returns-2 c = holds-word _ _ _ _ (c .before .if1 .left)
+returns-2 c = rw (c .word .ensures) (holds-word _ _ _ _ (c .before .if1 .left))
 
 pub holds-spec : {M : Type 1} → statement M
-holds-spec =
-    tie.close
-    (tie.spec shared-slice-read-if1 returns mul-result shared-slice-read-result returns-2)
+holds-spec = tie.close (tie.spec shared-slice-read-if1 returns word-requires returns-2)

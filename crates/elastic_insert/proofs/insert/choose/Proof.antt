@@ -28,13 +28,13 @@ active-batch-requires c κs = search needs
 
 steps-requires : tie.Need-steps-requires
 steps-requires c κs =
-    let v = c .before .before .before .before .before .before .before .before .before .before .pre in
+    let v = c .before .before .before .before .before .before .before .before .before .before .before .pre in
     let b = batch-code _ _ _ _ _ _ (v .levels-is) (v .maximum-is) (c .active-batch .ensures) in
     (rw (v .words-size) at v, rw b (valid-batch v (c .before .before .if1 .left)))
 
 returns-3 : tie.Need-returns-3
 returns-3 c =
-    let v = c .before .before .before .before .before .before .before .before .before .before .before .pre in
+    let v = c .before .before .before .before .before .before .before .before .before .before .before .before .pre in
     let b = batch-code _ _ _ _ _ _ (v .levels-is) (v .maximum-is) (c .before .active-batch .ensures) in
     choose-steps _ _ _ _ _ _ (c .before .before .before .before .before .before .before .before .find-identity .ensures) _ _ _ (c .before .before .before .before .before .before .enum-told .given .1) (c .before .before .before .if1 .left) (c .before .before .elastic-key .ensures) b (c .steps .ensures)
 

@@ -2,6 +2,7 @@
 use mathlib.Core.Path.{sym, _∙_}
 use Rattle.elastic.specs.StateLaws.{gate-valid}
 use Rattle.elastic_steps.specs.InsertLaws.{insert-gate, insert-place}
+use Rattle.lent.specs.Lent.{wordsIn}
 use borrow.Author.Needs.{needs}
 use Rattle.elastic_insert.proofs.insert.insert.Statement.{statement}
 use Rattle.elastic_insert.proofs.insert.insert.Tie as tie
@@ -18,8 +19,12 @@ returns c = insert-gate _ _ _ _ _ _ (sym (c .before .before .before .state-gate 
 enum-told : tie.Need-enum-told
 enum-told c = search needs
 
+slice-aggregate-place : tie.Need-slice-aggregate-place
+slice-aggregate-place c = search needs
+
 place-requires : tie.Need-place-requires
-place-requires c κs = gate-valid _ _ _ _ (sym (c .before .before .before .before .before .state-gate .ensures) ∙ c .before .before .before .enum-told .given .1)
+unfolding wordsIn
+place-requires c κs = gate-valid _ _ _ _ (sym (c .before .before .before .before .before .before .state-gate .ensures) ∙ c .before .before .before .before .enum-told .given .1)
 
 same-length : tie.Need-same-length
 same-length c = search needs
@@ -28,7 +33,8 @@ same-length-2 : tie.Need-same-length-2
 same-length-2 c = search needs
 
 returns-2 : tie.Need-returns-2
-returns-2 c = insert-place _ _ _ _ _ _ (sym (c .before .before .before .before .before .before .before .before .before .before .state-gate .ensures) ∙ c .before .before .before .before .before .before .before .before .enum-told .given .1) (c .before .before .before .before .place .ensures)
+unfolding wordsIn
+returns-2 c = insert-place _ _ _ _ _ _ (sym (c .before .before .before .before .before .before .before .before .before .before .before .before .state-gate .ensures) ∙ c .before .before .before .before .before .before .before .before .before .before .enum-told .given .1) (c .before .before .before .before .before .place .ensures)
 
 pub insert-spec : {M : Type 1} → statement M
 insert-spec =
@@ -38,6 +44,7 @@ insert-spec =
     enum-known-gate
     returns
     enum-told
+    slice-aggregate-place
     place-requires
     same-length
     same-length-2

@@ -1,8 +1,8 @@
 -- `elastic_query::query::query` meets its contract: the gate refuses, or the walk over the positions. Assumes nothing.
-use mathlib.Core.Path.{_≡_, sym, _∙_}
-use native.Mathlib.Omega.{arith}
+use mathlib.Core.Path.{sym, _∙_}
 use Rattle.elastic.specs.StateLaws.{gate-valid}
-use Rattle.elastic_query.specs.QueryLaws.{valid-levels, valid-queried, query-gate, query-walk}
+use Rattle.elastic_query.specs.QueryLaws.{query-gate, query-look}
+use Rattle.lent.specs.Lent.{wordsIn}
 use borrow.Author.Needs.{needs}
 use Rattle.elastic_query.proofs.query.query.Statement.{statement}
 use Rattle.elastic_query.proofs.query.query.Tie as tie
@@ -19,20 +19,16 @@ returns c = query-gate _ _ _ _ _ _ (sym (c .before .before .before .state-gate .
 enum-told : tie.Need-enum-told
 enum-told c = search needs
 
-elastic-key-requires : tie.Need-elastic-key-requires
-elastic-key-requires c κs = search needs
+slice-aggregate-look : tie.Need-slice-aggregate-look
+slice-aggregate-look c = search needs
 
-sub-t14 : tie.Need-sub-t14
-sub-t14 c = valid-levels (gate-valid _ _ _ _ (sym (c .before .before .before .before .before .before .state-gate .ensures) ∙ c .before .before .before .before .enum-told .given .1))
-
-find-requires : tie.Need-find-requires
-find-requires c κs = valid-queried (gate-valid _ _ _ _ (sym (c .before .before .before .before .before .before .state-gate .ensures) ∙ c .before .before .before .before .enum-told .given .1))
+look-requires : tie.Need-look-requires
+unfolding wordsIn
+look-requires c κs = gate-valid _ _ _ _ (sym (c .before .before .before .state-gate .ensures) ∙ c .before .enum-told .given .1)
 
 returns-2 : tie.Need-returns-2
-returns-2 c =
-    let v = gate-valid _ _ _ _ (sym (c .before .before .before .before .before .before .before .state-gate .ensures) ∙ c .before .before .before .before .before .enum-told .given .1) in
-    let l = valid-levels v in
-    query-walk _ _ _ _ _ _ _ _ (sym (c .before .before .before .before .before .before .before .state-gate .ensures) ∙ c .before .before .before .before .before .enum-told .given .1) (c .before .before .elastic-key .ensures) (omega (arith, l)) (c .find .ensures)
+unfolding wordsIn
+returns-2 c = query-look _ _ _ _ _ _ (sym (c .before .before .before .before .state-gate .ensures) ∙ c .before .before .enum-told .given .1) (c .look .ensures)
 
 pub query-spec : {M : Type 1} → statement M
 query-spec =
@@ -42,7 +38,6 @@ query-spec =
     enum-known-gate
     returns
     enum-told
-    elastic-key-requires
-    sub-t14
-    find-requires
+    slice-aggregate-look
+    look-requires
     returns-2)

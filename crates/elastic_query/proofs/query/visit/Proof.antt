@@ -20,7 +20,7 @@ enum-known-refusal : tie.Need-enum-known-refusal
 enum-known-refusal c = search needs
 
 returns : tie.Need-returns
-returns c = visit-refused _ _ _ _ _ _ _ _ _ (c .before .before .before .before .before .before .pre .1) _ (sym (c .before .before .before .route .ensures) ∙ c .before .refusal .given .1)
+returns c = visit-refused _ _ _ _ _ _ _ _ _ (c .before .before .before .before .before .before .before .pre .1) _ (sym (c .before .before .before .route .ensures) ∙ c .before .refusal .given .1)
 
 enum-known-slot : tie.Need-enum-known-slot
 enum-known-slot c = search needs
@@ -30,7 +30,7 @@ charge-requires c κs = search needs
 
 add-total : tie.Need-add-total
 add-total c =
-    let p = c .before .before .before .before .before .before .before .pre in
+    let p = c .before .before .before .before .before .before .before .before .pre in
     let v = p .1 in
     let r = reading-read (queried-probed (p .0) _ (omega (arith, v .level, v .level-pos))) _ _ _ _ (sym (c .before .before .before .before .route .ensures) ∙ c .before .before .slot .given .1) in
     let k = charged-most _ _ _ _ (c .charge .ensures) in
@@ -38,29 +38,29 @@ add-total c =
 
 holds-requires : tie.Need-holds-requires
 holds-requires c κs =
-    let p = c .before .before .before .before .before .before .before .pre in
+    let p = c .before .before .before .before .before .before .before .before .pre in
     let v = p .1 in
     let r = reading-read (queried-probed (p .0) _ (omega (arith, v .level, v .level-pos))) _ _ _ _ (sym (c .before .before .before .before .route .ensures) ∙ c .before .before .slot .given .1) in
     (omega (arith, r .below, p .0 .words-size), omega (arith, r .below, p .0 .flags-size))
 
-add-t21 : tie.Need-add-t21
-add-t21 c = search needs
+add-t23 : tie.Need-add-t23
+add-t23 c = search needs
 
-add-t22 : tie.Need-add-t22
-add-t22 c = search needs
+add-t24 : tie.Need-add-t24
+add-t24 c = search needs
 
-sub-t23 : tie.Need-sub-t23
-sub-t23 c = search needs
+sub-t25 : tie.Need-sub-t25
+sub-t25 c = search needs
 
 returns-2 : tie.Need-returns-2
-returns-2 c = visit-hit _ _ _ _ _ _ _ _ _ (c .before .before .before .before .before .before .before .before .before .pre .1) _ _ _ (sym (c .before .before .before .before .before .before .route .ensures) ∙ c .before .before .before .before .slot .given .1) (c .before .before .charge .ensures) (sym (c .before .holds .ensures) ∙ c .if1 .taken)
+returns-2 c = visit-hit _ _ _ _ _ _ _ _ _ (c .before .before .before .before .before .before .before .before .before .before .pre .1) _ _ _ (sym (c .before .before .before .before .before .before .route .ensures) ∙ c .before .before .before .before .slot .given .1) (c .before .before .charge .ensures) (sym (c .before .holds .ensures) ∙ c .if1 .taken)
 
-add-t18 : tie.Need-add-t18
-add-t18 c = search needs
+add-t20 : tie.Need-add-t20
+add-t20 c = search needs
 
 returns-3 : tie.Need-returns-3
 returns-3 c =
-    let p = c .before .before .before .before .before .before .before .before .before .pre in
+    let p = c .before .before .before .before .before .before .before .before .before .before .pre in
     let v = p .1 in
     let r = reading-read (queried-probed (p .0) _ (omega (arith, v .level, v .level-pos))) _ _ _ _ (sym (c .before .before .before .before .before .before .route .ensures) ∙ c .before .before .before .before .slot .given .1) in
     let k = charged-most _ _ _ _ (c .before .before .charge .ensures) in
@@ -79,9 +79,9 @@ visit-spec =
     charge-requires
     add-total
     holds-requires
-    add-t21
-    add-t22
-    sub-t23
+    add-t23
+    add-t24
+    sub-t25
     returns-2
-    add-t18
+    add-t20
     returns-3)

@@ -1,5 +1,6 @@
 -- `funnel_calls::calls::insert` meets its contract. By what its gate said. Assumes nothing.
 use borrow.Author.Needs.{needs}
+use Rattle.lent.specs.Lent.{wordsIn}
 use Rattle.funnel.specs.CallLaws.{passed-valid, insert-refused, insert-passed}
 use Rattle.funnel_calls.proofs.calls.insert.Statement.{statement}
 use Rattle.funnel_calls.proofs.calls.insert.Tie as tie
@@ -13,8 +14,12 @@ enum-known-g c = search needs
 enum-told : tie.Need-enum-told
 enum-told c = search needs
 
+slice-aggregate-insert : tie.Need-slice-aggregate-insert
+slice-aggregate-insert c = search needs
+
 insert-requires : tie.Need-insert-requires
-insert-requires c κs = passed-valid _ _ _ _ _ (c .before .before .before .before .table-gate .ensures) (c .before .before .enum-told .given .1)
+unfolding wordsIn
+insert-requires c κs = passed-valid _ _ _ _ _ (c .before .before .before .before .before .table-gate .ensures) (c .before .before .before .enum-told .given .1)
 
 returns : tie.Need-returns
 returns c = insert-refused _ _ _ _ _ (c .before .before .before .table-gate .ensures) _ _ (c .before .g .given .1)
@@ -26,7 +31,8 @@ same-length-2 : tie.Need-same-length-2
 same-length-2 c = search needs
 
 returns-2 : tie.Need-returns-2
-returns-2 c = insert-passed _ _ _ _ _ (c .before .before .before .before .before .before .before .before .before .table-gate .ensures) _ _ _ _ (c .before .before .before .before .before .before .before .enum-told .given .1) (c .before .before .before .before .insert .ensures)
+unfolding wordsIn
+returns-2 c = insert-passed _ _ _ _ _ (c .before .before .before .before .before .before .before .before .before .before .before .table-gate .ensures) _ _ _ _ (c .before .before .before .before .before .before .before .before .before .enum-told .given .1) (c .before .before .before .before .before .insert .ensures)
 
 pub insert-spec : {M : Type 1} → statement M
 insert-spec =
@@ -35,6 +41,7 @@ insert-spec =
     table-gate-requires
     enum-known-g
     enum-told
+    slice-aggregate-insert
     insert-requires
     returns
     same-length
