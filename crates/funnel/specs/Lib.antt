@@ -27,3 +27,4 @@ pub mod Valid
 pub mod ValidLent
 pub mod Ranked
 pub mod ReportLaws
+pub mod EdgeLaws

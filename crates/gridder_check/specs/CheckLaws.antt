@@ -20,7 +20,7 @@ use Rattle.audit_calls.specs.declared.check.Checked.{Checked}
 use Rattle.lent.specs.Lent.{wordsOf, wordsIn, wordCount}
 use Rattle.lent.specs.LentLaws.{count-some, length-whole}
 use Rattle.lent.specs.StoreLaws.{in-whole}
-use Rattle.lent_search.specs.EdgeLaws.{lent-in, valid-in}
+use Rattle.funnel.specs.EdgeLaws.{lent-in, valid-in}
 use Rattle.gridder_answer.specs.GateLaws.{block-facts}
 use Rattle.gridder_answer.specs.Answer.{answerLength, says, saying, Reply, reply}
 use Rattle.gridder_calls.specs.CallLaws.{lent-valid}

@@ -1,5 +1,5 @@
 -- `gridder_images::calls::load_in` meets its contract. By what its gate said of the table in the block. Assumes nothing.
-use Rattle.lent_search.specs.EdgeLaws.{words-valid, valid-in, words-after}
+use Rattle.funnel.specs.EdgeLaws.{words-valid, valid-in, words-after}
 use Rattle.gridder_images.specs.CallLaws.{load-refused, load-passed}
 use Rattle.gridder_calls.specs.CallLaws.{gate-ready}
 use Rattle.gridder_state.specs.StateLaws.{holds-facts}

@@ -1,5 +1,5 @@
 -- `gridder_images::calls::write_in` meets its contract. By what its gate said of the table in the block. Assumes nothing.
-use Rattle.lent_search.specs.EdgeLaws.{flags-in, flags-length}
+use Rattle.funnel.specs.EdgeLaws.{flags-in, flags-length}
 use Rattle.gridder_images.specs.CallLaws.{write-ready, write-refused, write-passed}
 use Rattle.gridder_state.specs.StateLaws.{holds-facts}
 use native.Mathlib.Omega.{arith}
