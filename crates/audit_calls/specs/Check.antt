@@ -40,7 +40,7 @@ unfoldable pub takeAll : FunnelTable → (counts words flags order : List ℕ) �
 takeAll table counts words flags order =
     endOf flags (table .n) (greedyOf table counts words flags (table .n) (table .n) (replicate (table .n) 0) order 0)
 
--- "DIRTY: smallest such slot"; it leaves marks and order as they are
+-- DIRTY: "smallest such slot"; it leaves marks and order as they are
 abbrev pub unlessDirty : First → (marks order : List ℕ) → Ended → Ended
 unlessDirty (At slot) marks order next = ended (checked.Dirty slot) marks order
 unlessDirty Nothing marks order next = next
@@ -52,7 +52,7 @@ auditOf table counts words flags marks order =
 
 -- ---- the public call
 
--- 1 to 7 of a table; "7 STATE: a lent buffer isn't n long", marks and order among them
+-- 1 to 7 of a table; STATE (7): "a lent buffer isn't n long", marks and order among them
 unfoldable pub checkGate : FunnelTable → List ℕ → (words flags marks order : ℕ) → Gated
 checkGate table counts words flags marks order = gateThen (tableGate table counts words flags) (lengthsThen (table .n) marks order Passed)
 

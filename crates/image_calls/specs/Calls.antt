@@ -26,7 +26,7 @@ use Rattle.image_writer.specs.declared.writer.Written.the-variants as written
 
 -- ---- the writer
 
--- the tests 1 to 7 of a table, with "6 LIMITS: .. or label over 64 bytes"
+-- the tests 1 to 7 of a table, with LIMITS (6): ".. or label over 64 bytes"
 unfoldable pub writeGate : FunnelTable → List ℕ → (words flags label : ℕ) → Gated
 writeGate table counts words flags label =
     gateThen (funnelGate (table .n) (table .e))
