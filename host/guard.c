@@ -427,7 +427,7 @@ static void keeps_rules(uint64_t result, const struct may *may)
 {
     count(result);
     if (!holds_table())
-        must(result == LANDOVIREPH_STATE, "a block that holds no such table was taken");
+        must(result == LANDOVIREPH_REFUSED_STATE, "a block that holds no such table was taken");
     keeps_answers(result, may, !holds_table());
 }
 
@@ -463,8 +463,8 @@ static void keep_table(void)
 
 static void try_search(void)
 {
-    static const struct may may[] = { { 0, PROBES | PLACE | FOUND }, { LANDOVIREPH_RANGE, RANGE_WORDS },
-                                      { LANDOVIREPH_FULL, PROBES },  { -1, 0 } };
+    static const struct may may[] = { { 0, PROBES | PLACE | FOUND }, { LANDOVIREPH_REFUSED_RANGE, RANGE_WORDS },
+                                      { LANDOVIREPH_REFUSED_FULL, PROBES },  { -1, 0 } };
     uint64_t identity = asked(), slot;
     uint64_t result = landovireph_funnel_search(TABLE, identity, LENT(ANSWER));
     keeps_rules(result, may);
@@ -490,9 +490,9 @@ static void keeps_entered(uint64_t slot, uint64_t identity)
 
 static void try_insert(void)
 {
-    static const struct may may[] = { { 0, PROBES | PLACE },          { LANDOVIREPH_RANGE, RANGE_WORDS },
-                                      { LANDOVIREPH_DUPLICATE, PROBES | PLACE }, { LANDOVIREPH_EXHAUSTED, PROBES },
-                                      { LANDOVIREPH_FULL, PROBES },   { -1, 0 } };
+    static const struct may may[] = { { 0, PROBES | PLACE },          { LANDOVIREPH_REFUSED_RANGE, RANGE_WORDS },
+                                      { LANDOVIREPH_REFUSED_DUPLICATE, PROBES | PLACE }, { LANDOVIREPH_REFUSED_EXHAUSTED, PROBES },
+                                      { LANDOVIREPH_REFUSED_FULL, PROBES },   { -1, 0 } };
     uint64_t identity = one_in(4) ? asked() : member(), slot;
     uint64_t result = landovireph_funnel_insert(TABLE, identity, LENT(ANSWER));
     keeps_rules(result, may);
@@ -529,8 +529,8 @@ static void keeps_placed(uint64_t placed)
 
 static void try_place_all(void)
 {
-    static const struct may may[] = { { 0, PLACED }, { LANDOVIREPH_RANGE, RANGE_WORDS | PLACED },
-                                      { LANDOVIREPH_EXHAUSTED, PROBES | PLACED }, { LANDOVIREPH_FULL, PROBES | PLACED }, { -1, 0 } };
+    static const struct may may[] = { { 0, PLACED }, { LANDOVIREPH_REFUSED_RANGE, RANGE_WORDS | PLACED },
+                                      { LANDOVIREPH_REFUSED_EXHAUSTED, PROBES | PLACED }, { LANDOVIREPH_REFUSED_FULL, PROBES | PLACED }, { -1, 0 } };
     uint8_t identities[8 * MOST_IDENTITIES] = { 0 };
     uint64_t k, result, many = below(MOST_IDENTITIES + 1);
     for (k = 0; k < many; k++)
@@ -542,7 +542,7 @@ static void try_place_all(void)
     result = landovireph_funnel_place_all(TABLE, LENT(IDENTITIES), LENT(SLOTS), LENT(ANSWER));
     keeps_rules(result, may);
     must(same(IDENTITIES), "identities were changed");
-    if (result != 0 && result != LANDOVIREPH_RANGE && result != LANDOVIREPH_EXHAUSTED && result != LANDOVIREPH_FULL) {
+    if (result != 0 && result != LANDOVIREPH_REFUSED_RANGE && result != LANDOVIREPH_REFUSED_EXHAUSTED && result != LANDOVIREPH_REFUSED_FULL) {
         must(same(SLOTS), "a refusal wrote slots");
         keeps_table();
         return;
@@ -585,14 +585,14 @@ static void keeps_verdict(uint64_t result)
 
 static void try_check(void)
 {
-    static const struct may may[] = { { 0, PLACED }, { LANDOVIREPH_DIRTY, SLOT }, { LANDOVIREPH_DISORDER, PLACED | SLOT }, { -1, 0 } };
+    static const struct may may[] = { { 0, PLACED }, { LANDOVIREPH_REFUSED_DIRTY, SLOT }, { LANDOVIREPH_REFUSED_DISORDER, PLACED | SLOT }, { -1, 0 } };
     uint64_t result;
     lend_noise(MARKS, about(table->n));
     lend_noise(ORDER, about(8 * table->n));
     result = landovireph_funnel_check(TABLE, LENT(MARKS), LENT(ORDER), LENT(ANSWER));
     keeps_rules(result, may);
     keeps_table();
-    if (result == 0 || result == LANDOVIREPH_DISORDER) {
+    if (result == 0 || result == LANDOVIREPH_REFUSED_DISORDER) {
         keeps_marks(landovireph_answer_placed(arenas[ANSWER].at));
         keeps_verdict(result);
     } else {
@@ -654,7 +654,7 @@ static void writes_again(void)
 
 static void try_load(void)
 {
-    static const struct may may[] = { { 0, LABEL_AT }, { LANDOVIREPH_IMAGE, BYTE }, { LANDOVIREPH_FOREIGN, 0 }, { -1, 0 } };
+    static const struct may may[] = { { 0, LABEL_AT }, { LANDOVIREPH_REFUSED_IMAGE, BYTE }, { LANDOVIREPH_REFUSED_FOREIGN, 0 }, { -1, 0 } };
     static uint8_t image[ROOM];
     size_t length = image_of(one_in(4) || table->elastic ? &pool[below(POOL)] : table, image, sizeof image);
     uint64_t result;
@@ -674,7 +674,7 @@ static void try_load(void)
 
 static void try_write(void)
 {
-    static const struct may may[] = { { 0, IMAGE_BYTES }, { LANDOVIREPH_DIRTY, SLOT }, { LANDOVIREPH_ROOM, IMAGE_BYTES }, { -1, 0 } };
+    static const struct may may[] = { { 0, IMAGE_BYTES }, { LANDOVIREPH_REFUSED_DIRTY, SLOT }, { LANDOVIREPH_REFUSED_ROOM, IMAGE_BYTES }, { -1, 0 } };
     uint64_t members = 0, k, result, needed, label_length = one_in(3) ? below(80) : 0;
     lend_noise(LABEL, label_length);
     for (k = 0; k < arenas[FLAGS].length; k++)
@@ -685,7 +685,7 @@ static void try_write(void)
     keeps_rules(result, may);
     keeps_table();
     must(same(LABEL), "the label was changed");
-    if (result == LANDOVIREPH_ROOM)
+    if (result == LANDOVIREPH_REFUSED_ROOM)
         must(landovireph_get(arenas[ANSWER].at, LANDOVIREPH_ANSWER_IMAGE_BYTES) == needed && needed > arenas[IMAGE].length,
              "ROOM without the length that is needed");
     if (result != 0) {
@@ -704,7 +704,7 @@ static void keeps_opened(uint64_t result, uint64_t n)
     static const struct may may[] = { { 0, 0 }, { -1, 0 } };
     bool other_state = arenas[STATE].length != LANDOVIREPH_STATE_BYTES;
     count(result);
-    keeps_answers(result, may, other_state && result == LANDOVIREPH_STATE);
+    keeps_answers(result, may, other_state && result == LANDOVIREPH_REFUSED_STATE);
     if (result != 0) {
         keeps_table();
         return;
@@ -747,9 +747,9 @@ static void try_elastic_open(void)
 
 static void try_elastic_insert(void)
 {
-    static const struct may may[] = { { 0, ELASTIC_INSERTED },       { LANDOVIREPH_DUPLICATE, SLOT }, { LANDOVIREPH_EXHAUSTED, 0 },
-                                      { LANDOVIREPH_SCHEDULE, 0 },   { LANDOVIREPH_RANGE, RANGE_WORDS }, { LANDOVIREPH_SEARCH, 0 },
-                                      { LANDOVIREPH_POSITION, 0 },   { -1, 0 } };
+    static const struct may may[] = { { 0, ELASTIC_INSERTED },       { LANDOVIREPH_REFUSED_DUPLICATE, SLOT }, { LANDOVIREPH_REFUSED_EXHAUSTED, 0 },
+                                      { LANDOVIREPH_REFUSED_SCHEDULE, 0 },   { LANDOVIREPH_REFUSED_RANGE, RANGE_WORDS }, { LANDOVIREPH_REFUSED_SEARCH, 0 },
+                                      { LANDOVIREPH_REFUSED_POSITION, 0 },   { -1, 0 } };
     uint64_t identity = one_in(4) ? asked() : member(), slot, level;
     uint64_t result = landovireph_elastic_insert(TABLE, identity, LENT(ANSWER));
     keeps_rules(result, may);
@@ -770,7 +770,7 @@ static void try_elastic_query(void)
 {
     static const struct may may[] = { { 0, SLOT | RANGE_WORDS | BIT(LANDOVIREPH_ANSWER_POSITION) | BIT(LANDOVIREPH_ANSWER_MAPPED) |
                                             BIT(LANDOVIREPH_ANSWER_GAP) },
-                                      { LANDOVIREPH_RANGE, RANGE_WORDS }, { LANDOVIREPH_ABSENT, 0 }, { -1, 0 } };
+                                      { LANDOVIREPH_REFUSED_RANGE, RANGE_WORDS }, { LANDOVIREPH_REFUSED_ABSENT, 0 }, { -1, 0 } };
     uint64_t identity = asked(), slot;
     uint64_t result = landovireph_elastic_query(TABLE, identity, LENT(ANSWER));
     keeps_rules(result, may);
