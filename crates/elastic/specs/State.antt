@@ -48,7 +48,7 @@ countsWithin (l ∷ ls) (c ∷ cs) = both (leb c l) (countsWithin ls cs)
 unfoldable pub countsFit : (lengths : List ℕ) (count : ℕ) (counts : List ℕ) → Bool
 countsFit ls count cs = both (countsWithin ls cs) (eqb (total cs) count)
 
--- "STATE: a lent buffer isn't n long; count above n; plan not that of n and e; elastic level count .."
+-- STATE: "a lent buffer isn't n long; count above n; plan not that of n and e; elastic level count .."
 unfoldable pub stateFits : (n e : ℕ) → ElasticPlan → (count : ℕ) → List ℕ → (words flags : ℕ) → Bool
 stateFits n e plan count cs words flags =
     both (buffersFit n words flags)

@@ -232,7 +232,7 @@ phi-over m i j hi hj l = go (decLe (2 ^ m) (phi i j))
 pub phi-fits : (m i j : ℕ) → 0 < i → 0 < j → 2 * bitsOf j + 1 + bitsOf i ≤ m → phi i j < 2 ^ m
 phi-fits m i j hi hj l = bits-fits (phi i j) m (omega (arith, phi-bits i j hi hj))
 
--- "phi(i, j) < 16 * i * j^2"
+-- phi(i, j) < 16 i j^2
 pub phi-bound : (i j : ℕ) → 0 < i → 0 < j → phi i j < 16 * i * (j * j)
 phi-bound i j hi hj =
     let p = has-top i hi in

@@ -64,7 +64,7 @@ counted c words s =
       seen = pick (isOrigin c) true (s .seen);
     }
 
--- "Query's answer: position, global slot, mapped, gap, words"
+-- a query's answer, as case I has it: position, global slot, mapped, gap, words
 abbrev pub foundAt : (position slot : ℕ) → Tally → QueryAnswer
 foundAt position slot t =
     answer.Found (record { position = position; «global_slot» = record { 0 = slot }; mapped = t .mapped; gap = t .gaps; words = t .words })
@@ -76,7 +76,7 @@ walkBy holds position c s (reading.Slot slot words) later =
     pick (holds slot) (foundAt position slot (counted c words s)) (later (counted c words s))
 
 module _ (route : ℕ → ℕ → Reading) (holds : ℕ → Bool) (levels : ℕ) where
-  -- "Query tries positions 1, 2, ..": so many from one on; "ABSENT: elastic query reached its position cap"
+  -- "Query tries positions 1, 2, ..": so many from one on; ABSENT: "elastic query reached its position cap"
   unfoldable pub walkOf : (tries position : ℕ) → Tally → QueryAnswer
   walkOf zero position s = answer.Absent
   walkOf (suc tries) position s =

@@ -36,7 +36,7 @@ use Rattle.elastic.specs.Reading.{seekOf, firstOf}
 
 -- ---- the choice of a slot
 
--- a uniform search of a level takes its vacancy; "SEARCH: uniform-search cap used up"
+-- a uniform search of a level takes its vacancy; SEARCH: "uniform-search cap used up"
 abbrev pub uniformBy : Case → (level : ℕ) → Sought → Chosen
 uniformBy case level (sought.Vacant slot probe) = chosen.Slot case level slot probe
 uniformBy case level sought.Passed = chosen.Refused refusal.Search
@@ -66,7 +66,7 @@ currentLow e length free = leb free (length / 2 ^ (e + 1))
 abbrev pub nextLow : (length free : ℕ) → Bool
 nextLow length free = leb free (length / 4)
 
--- "SCHEDULE: both active elastic levels low. Current low: next. Next low: current. Else budget probes in current, then next uniformly"
+-- SCHEDULE: "both active elastic levels low"; "Current low: next. Next low: current. Else budget probes in current, then next uniformly"
 unfoldable pub pairBy : (lowCurrent lowNext : Bool) → (both onlyCurrent onlyNext neither : Chosen) → Chosen
 pairBy true true both onlyCurrent onlyNext neither = both
 pairBy true false both onlyCurrent onlyNext neither = onlyCurrent
@@ -93,7 +93,7 @@ unfoldable pub stepsOf : State → (key : ℕ) → List ℕ → List ℕ → (ba
 stepsOf st key cs fs zero = uniformOf (st .n) key (st .limits .«range_word_cap») fs (st .limits .«uniform_search_probe_cap») (Batch0 0) 0
 stepsOf st key cs fs (suc current) = pairOf st key cs fs current
 
--- "EXHAUSTED: count at least n minus floor(n/2^e)"; "the batch is the first whose quota prefix exceeds the count"
+-- EXHAUSTED: "count at least n minus floor(n/2^e)"; "the batch is the first whose quota prefix exceeds the count"
 abbrev pub chooseBy : State → (id : ℕ) → List ℕ → List ℕ → Located → Chosen
 chooseBy st id cs fs (located.At slot) = chosen.Refused (refusal.Duplicate (record { 0 = slot }))
 chooseBy st id cs fs located.Nowhere =
@@ -144,7 +144,7 @@ takenAt case level slot offset probe position =
 abbrev pub insertionOf : (n : ℕ) → Case → (level slot : ℕ) → LogicalProbe → Insertion
 insertionOf n case level slot probe = takenAt case level slot (offsetAt n level) probe (phi (level + 1) (probe .0 + 1))
 
--- "then 19. POSITION: chosen phi above the position cap"; "an insertion writes 1"
+-- "then 19", POSITION: "chosen phi above the position cap"; "an insertion writes 1"
 unfoldable pub placeBy : State → List ℕ → List ℕ → List ℕ → (id : ℕ) → Chosen → Done
 placeBy st cs ws fs id (chosen.Refused r) = done (answer.Refused r) st cs ws fs
 placeBy st cs ws fs id (chosen.Slot case level slot probe) =

@@ -41,11 +41,11 @@ abbrev pub gateThen : Gated → Gated → Gated
 gateThen (Refused g) later = Refused g
 gateThen Passed later = later
 
--- "6 LIMITS: a cap outside the domain"; "Funnel word cap 1 to 256"
+-- LIMITS (6): "a cap or c outside the domain"; "Funnel word cap 1 to 256"
 unfoldable pub limitsThen : ℕ → Gated → Gated
 limitsThen cap later = refuseIf (eqb cap 0) gate.Limits (refuseIf (ltb 256 cap) gate.Limits later)
 
--- "7 STATE: a lent buffer isn't n long", by the lengths of the two
+-- STATE (7): "a lent buffer isn't n long", by the lengths of the two
 unfoldable pub lengthsThen : (n words flags : ℕ) → Gated → Gated
 lengthsThen n words flags later = refuseIf (not (eqb words n)) gate.State (refuseIf (not (eqb flags n)) gate.State later)
 

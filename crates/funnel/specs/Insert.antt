@@ -43,12 +43,12 @@ stepped (insertion.Duplicate probes place) table = table
 stepped (insertion.Exhausted probes) table = table
 stepped (insertion.Full probes) table = table
 
--- "EXHAUSTED: count at least n minus floor(n/2^e)"; else what the search found
+-- EXHAUSTED: "count at least n minus floor(n/2^e)"; else what the search found
 abbrev pub unlessExhausted : FunnelTable → (words flags : List ℕ) (probes : ℕ) → Done → Done
 unlessExhausted table words flags probes next =
     pick (leb (table .plan .maximum) (table .count)) (done (insertion.Exhausted probes) table words flags) next
 
--- "Funnel insert: RANGE as the search meets it, else 15, 16, 20; these three carry the probe count"; "an insertion writes 1"
+-- "Funnel insert: RANGE as the search meets it, else 15, 16, 20; these three, and 20 from a search, carry the probe count"; "an insertion writes 1"
 unfoldable pub insertBy : FunnelTable → (words flags : List ℕ) (identity : ℕ) → Search → Done
 insertBy table words flags identity (search.Range refusal) = done (insertion.Range refusal) table words flags
 insertBy table words flags identity (search.Hit probes place) = done (insertion.Duplicate probes place) table words flags

@@ -127,7 +127,7 @@ module _ (table : FunnelTable) (counts words flags : List ℕ) (identity : ℕ) 
       go (search.Vacant j q) true l n = rw l
       go (search.Vacant j q) false l n = absurd (n j q (rw l))
 
-  -- "an insertion changes one slot and the count, or nothing"
+  -- an insertion changes one slot and the count, or nothing
   pub insert-changes : ((k : ℕ) × (p : Place) × Inserts table counts words flags identity k p)
       ⊎ (insertOf table counts words flags identity ≡ done (insertOf table counts words flags identity .answer) table words flags)
   insert-changes = go (insertOf table counts words flags identity .answer) refl

@@ -25,3 +25,5 @@ pub mod Stop
 pub mod StopLaws
 pub mod Valid
 pub mod ValidLent
+pub mod Ranked
+pub mod ReportLaws

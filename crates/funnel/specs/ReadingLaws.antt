@@ -80,7 +80,7 @@ pub record Agrees (words flags others marks : List ℕ) (p : Place) : Type 0 whe
   pub from : getD marks (slotOf p) 0 ≡ 0 → getD flags (slotOf p) 0 ≡ 0
   pub same : (getD flags (slotOf p) 0 ≡ 0 → ⊥) → getD words (slotOf p) 0 ≡ getD others (slotOf p) 0
 
--- "a search depends on nothing but the flags on its path and the words under set flags"
+-- a search depends on nothing but the flags on its path and the words under set flags
 pub walk-agrees : (words flags others marks : List ℕ) (identity : ℕ) (places : List Place) (e : Ending) (k : ℕ) → Every (Agrees words flags others marks) places
     → walkOf words flags identity places e k ≡ walkOf others marks identity places e k
 unfolding walkOf Every

@@ -20,7 +20,7 @@ abbrev pub refuseIf : Bool → Gate → Gated → Gated
 refuseIf true g later = Refused g
 refuseIf false g later = later
 
--- "1 N: n below 2. 2 ZEROEXP: e is 0. 3 SIZE: n above 2^32. Order: 1 to 7 by number"; `later` is what the tests after these say
+-- N (1): "n below 2"; ZEROEXP (2): "e is 0"; SIZE (3): "n above 2^32"; "Order: 1 to 7 by number". `later` is what the tests after these say
 unfoldable pub configThen : ℕ → ℕ → Gated → Gated
 configThen n e later = refuseIf (ltb n 2) gate.N (refuseIf (eqb e 0) gate.ZeroExp (refuseIf (ltb 4294967296 n) gate.Size later))
 

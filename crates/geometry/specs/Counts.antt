@@ -50,7 +50,7 @@ pub record First (t levels x : ℕ) : Type 0 where
   pub ordered : lo ≤ hi
   pub clamped : x ≡ max lo (min hi (quarter t))
 
--- "T buckets fill alpha levels": the counts of all levels
+-- "T = (n-s)/beta buckets fill alpha levels": the counts of all levels
 unfoldable pub Counts : ℕ → ℕ → List ℕ → Type 0
 Counts t levels [] = ⊥
 Counts t levels (x ∷ xs) = (suc (length xs) ≡ levels) × First t levels x × Rest x (t - x) xs

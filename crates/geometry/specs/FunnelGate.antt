@@ -1,4 +1,4 @@
--- What a request for a funnel's plan is answered, and the truth of "these are the plan". Assumes nothing.
+-- What a request for a funnel's plan is answered, and whether given numbers are the plan. Assumes nothing.
 use mathlib.Core.Bool.{Bool, not}
 use mathlib.Core.Path.{_≡_}
 use mathlib.Core.List.{List, [], _∷_}
@@ -23,7 +23,7 @@ hasLayout n e = truth (layout-dec n e)
 unfoldable pub isPlan : ℕ → ℕ → FunnelPlan → List ℕ → Bool
 isPlan n e p cs = truth (plan-dec n e p cs)
 
--- N, ZEROEXP, SIZE, then "4 EXPONENT: funnel, e below 3. 5 LAYOUT: no funnel layout by the rule below"
+-- N, ZEROEXP, SIZE, then EXPONENT (4): "funnel, e below 3", and LAYOUT (5): "no funnel layout by the rule below"
 unfoldable pub funnelGate : ℕ → ℕ → Gated
 funnelGate n e = configThen n e (refuseIf (ltb e 3) gate.Exponent (refuseIf (not (hasLayout n e)) gate.Layout Passed))
 

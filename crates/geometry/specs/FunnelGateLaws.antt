@@ -1,5 +1,5 @@
 -- Laws of the funnel's gate: when it refuses, that it passes exactly where there is a plan, that the answer is one, and the
--- truth of "these are the plan". Assumes nothing.
+-- truth of the test whether given numbers are the plan. Assumes nothing.
 use mathlib.Core.Bool.{Bool, true, false, not}
 use mathlib.Core.Path.{_≡_, refl, sym, ap, _∙_}
 use mathlib.Core.List.{List}

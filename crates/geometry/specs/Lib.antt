@@ -29,3 +29,4 @@ pub mod FunnelGateLaws
 pub mod ZeroLaws
 pub mod FunnelTestLaws
 pub mod PartLaws
+pub mod ReportLaws

@@ -89,7 +89,7 @@ module _ (n e seed : ℕ) (label words flags : List ℕ) (m : Machine n e seed w
         few = b;
       }
 
-  -- "what the writer wrote the loader reads back": the same words and flags, the number of entries, and the label's place
+  -- what the writer wrote the loader reads back: the same words and flags, the number of entries, and the label's place
   pub load-after-write : (out : List ℕ) (len : ℕ) (out' : List ℕ) → writeOf n e seed label words flags out ≡ writes (written.Done len) out'
       → (words₀ flags₀ : List ℕ) → length words₀ ≡ n → length flags₀ ≡ n
       → loadOf n e seed words₀ flags₀ (take len out') ≡ loads (filled.Done (length (entriesOf words flags)) (labelPlace label) (length label)) words flags
@@ -170,7 +170,7 @@ write-filled : (n e seed : ℕ) (label image words flags out : List ℕ) (es : L
 unfolding writeOf writeAfter
 write-filled n e seed label image words flags out es r w f b room = rw (w, f, scan-filled n es r, entries-filled n es r, b, le-ltb _ _ room)
 
--- "whatever the loader accepts, the writer writes again byte for byte for the same label", where the output has room
+-- whatever the loader accepts, the writer writes again byte for byte for the same label, where the output has room
 pub write-after-load : (n e seed : ℕ) (words flags image : List ℕ) → Bytes image → length words ≡ n → length flags ≡ n
     → (count labelAt labelLen : ℕ) (words' flags' : List ℕ) → loadOf n e seed words flags image ≡ loads (filled.Done count labelAt labelLen) words' flags'
     → (out : List ℕ) → length image ≤ length out

@@ -10,7 +10,7 @@ xorBits (suc k) a b = xorBits k (a / 2) (b / 2) * 2 + (a + b) % 2
 abbrev pub xor : ℕ → ℕ → ℕ
 xor a b = xorBits 64 a b
 
--- "x ^= x>>k"
+-- one of "x ^= x>>30", "x ^= x>>27", "x ^= x>>31"
 unfoldable pub xorShift : ℕ → ℕ → ℕ
 xorShift k x = xor x (x / 2 ^ k)
 
