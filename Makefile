@@ -9,13 +9,24 @@
 #     make uninstall              takes away what the same install put there
 #     make demonstration          the pictures of docs/ANSWER.md, to target/c/demonstration
 
+# The library is for x86-64. On another machine a cross compiler builds it and the programs; host/wrap makes each of them a script that
+# runs it by bin/run.
+ifneq ($(shell uname -m),x86_64)
+ifeq ($(origin CC),default)
+CC = x86_64-linux-gnu-gcc
+endif
+export AR = x86_64-linux-gnu-ar
+export NM = x86_64-linux-gnu-nm
+FINISH = host/wrap $@
+BUILT = .x86-64
+endif
+
 PREFIX ?= /usr/local
 LIBDIR ?= $(PREFIX)/lib
 INCLUDEDIR ?= $(PREFIX)/include
 BINDIR ?= $(PREFIX)/bin
 MANDIR ?= $(PREFIX)/share/man
 DESTDIR ?=
-CC ?= cc
 CFLAGS ?= -O2 -g
 
 # The exported calls are in the crate landovireph; the code that theirs comes from is in any crate but the programs'.
@@ -29,7 +40,7 @@ MAJOR := $(firstword $(subst ., ,$(VERSION)))
 SONAME = liblandovireph.so.$(MAJOR)
 SHARED = liblandovireph.so.$(VERSION)
 COMPILE = $(CC) -std=gnu99 -Wall -Wextra $(CPPFLAGS) $(CFLAGS) -Iinclude
-PROGRAMS = $(OUT)/replay $(OUT)/examine $(OUT)/guard
+PROGRAMS = $(OUT)/replay $(OUT)/examine $(OUT)/guard $(OUT)/range
 DEMONSTRATION = $(OUT)/samples $(OUT)/gridder $(OUT)/tidy $(OUT)/sources
 PACKAGE = landovireph.pc landovirephConfig.cmake landovirephConfigVersion.cmake
 
@@ -68,15 +79,18 @@ $(OUT)/replay: host/replay.c host/funnel.c host/elastic.c host/runs.c host/image
     host/replay.h host/runs.h host/line.h host/table.h host/mix64.h
 $(OUT)/examine: host/examine.c host/look.c host/report.c host/picture.c host/limits.c host/progress.c \
     host/look.h host/report.h host/picture.h host/limits.h host/progress.h
-$(OUT)/guard: host/guard.c host/mix64.h
+$(OUT)/guard: host/guard.c host/model.c host/model.h host/mix64.h
+$(OUT)/range: host/range.c host/model.c host/model.h
 
-$(PROGRAMS): $(HEADERS) $(OUT)/liblandovireph.a
+$(PROGRAMS): $(HEADERS) $(OUT)/liblandovireph.a host/wrap
 	$(COMPILE) -Ihost $(filter %.c,$^) $(OUT)/liblandovireph.a -lm -o $@
+	$(FINISH)
 
 $(OUT)/gridder $(OUT)/tidy: examples/gridder/files.c examples/gridder/files.h
 
 $(DEMONSTRATION): $(OUT)/%: examples/gridder/%.c examples/gridder/grid.h $(HEADERS) $(OUT)/liblandovireph.a
 	$(COMPILE) $(filter %.c,$^) $(OUT)/liblandovireph.a -lm -o $@
+	$(FINISH)
 
 check: all
 	host/test
@@ -97,7 +111,7 @@ install: $(OUT)/liblandovireph.a $(OUT)/liblandovireph.so $(OUT)/examine
 	ln -sf $(SONAME) '$(DESTDIR)$(LIBDIR)/liblandovireph.so'
 	install -m 644 $(OUT)/landovireph.pc '$(DESTDIR)$(LIBDIR)/pkgconfig/'
 	install -m 644 $(OUT)/landovirephConfig.cmake $(OUT)/landovirephConfigVersion.cmake '$(DESTDIR)$(LIBDIR)/cmake/landovireph/'
-	install -m 755 $(OUT)/examine '$(DESTDIR)$(BINDIR)/'
+	install -m 755 $(OUT)/examine$(BUILT) '$(DESTDIR)$(BINDIR)/examine'
 	install -m 644 man/examine.1 '$(DESTDIR)$(MANDIR)/man1/'
 	install -m 644 man/landovireph.3 '$(DESTDIR)$(MANDIR)/man3/'
 

@@ -3,9 +3,12 @@
 #include "landovireph.h"
 
 #include <stdbool.h>
+#include <stdlib.h>
 #include <string.h>
 
 #define LEVELS 118
+
+__extension__ typedef unsigned __int128 two_words;
 
 /* ---- words lent as bytes */
 
@@ -147,7 +150,7 @@ static bool set_special(struct layout *layout)
     return false;
 }
 
-/* The layout of n and e, or the refusal: "1 to 7 by number". With e above 32 alpha * beta is above any n. */
+/* The layout of n and e, or the refusal: "1 to 7 by number". With e above 23,170 alpha * beta is above every n that is taken. */
 static uint64_t layout_of(uint64_t n, uint32_t e, struct layout *layout)
 {
     memset(layout, 0, sizeof *layout);
@@ -256,6 +259,22 @@ static uint64_t enter(struct table *table, const struct lent *lent, bool limits,
     return 0;
 }
 
+uint64_t model_state(uint64_t n, uint32_t e, uint64_t seed, uint64_t word_cap, uint8_t *state)
+{
+    struct layout layout;
+    uint64_t refused = layout_of(n, e, &layout);
+    if (refused != 0)
+        return refused;
+    memset(state, 0, 2048);
+    put_word(state, LANDOVIREPH_STATE_KIND, 1);
+    put_word(state, LANDOVIREPH_STATE_N, n);
+    put_word(state, LANDOVIREPH_STATE_E, e);
+    put_word(state, LANDOVIREPH_STATE_SEED, seed);
+    put_word(state, LANDOVIREPH_STATE_WORD_CAP, word_cap);
+    put_layout(state, &layout);
+    return 0;
+}
+
 uint64_t model_open(uint64_t n, uint32_t e, uint64_t seed, uint64_t word_cap, struct lent lent)
 {
     struct layout layout;
@@ -268,13 +287,7 @@ uint64_t model_open(uint64_t n, uint32_t e, uint64_t seed, uint64_t word_cap, st
         clear_answer(lent.answer);
     if (refused != 0)
         return refused;
-    memset(lent.state.at, 0, 2048);
-    put_word(lent.state.at, LANDOVIREPH_STATE_KIND, 1);
-    put_word(lent.state.at, LANDOVIREPH_STATE_N, n);
-    put_word(lent.state.at, LANDOVIREPH_STATE_E, e);
-    put_word(lent.state.at, LANDOVIREPH_STATE_SEED, seed);
-    put_word(lent.state.at, LANDOVIREPH_STATE_WORD_CAP, word_cap);
-    put_layout(lent.state.at, &layout);
+    model_state(n, e, seed, word_cap, lent.state.at);
     memset(lent.words.at, 0, 8 * n);
     memset(lent.flags.at, 0, n);
     return 0;
@@ -307,7 +320,7 @@ static bool reduced(const struct table *table, uint64_t identity, uint64_t tag, 
 {
     uint64_t retry, rejected = (UINT64_MAX % u + 1) % u;
     for (retry = 0; retry < table->cap; retry++) {
-        unsigned __int128 product = (unsigned __int128)drawn_word(table, identity, tag, level, probe, retry) * u;
+        two_words product = (two_words)drawn_word(table, identity, tag, level, probe, retry) * u;
         if ((uint64_t)product >= rejected) {
             *index = (uint64_t)(product >> 64);
             return true;
@@ -583,7 +596,9 @@ static bool is_ready(const struct table *table, const uint8_t *marks, struct wai
 /* "From empty marks it takes, again and again, the smallest unplaced occupied slot" that is ready; how many it takes */
 static uint64_t take_all(const struct table *table, uint8_t *marks, struct span order)
 {
-    uint64_t n = table->layout.n, placed = 0, slot;
+    uint64_t n = table->layout.n, placed = 0, slot, first = 0;
+    if (n > MOST_SLOTS)
+        abort();
     for (slot = 0; slot < n; slot++) {
         struct waiting waiting = { path_of(table, table_word(table, slot)), { 0, 0, 0, 0, 0 }, false, false };
         all_waiting[slot] = waiting;
@@ -594,7 +609,9 @@ static uint64_t take_all(const struct table *table, uint8_t *marks, struct span 
             marks[slot] = 1;
             put_word(order.at, 8 * placed, slot);
             placed++;
-            slot = 0;
+            while (first < n && (table->flags[first] == 0 || marks[first] != 0))
+                first++;
+            slot = first;
         } else {
             slot++;
         }

@@ -1,6 +1,6 @@
 /*
- * The calls on funnel tables once more, written from the rules of docs (the scope's words stand at each step) and from nothing else: no
- * line of it comes from the crates. It is plain and slow, and meant to be read beside the rules. guard holds every answer and byte of
+ * The calls on funnel tables once more, written from the rules alone (their words stand quoted at each step): no line of it comes from the
+ * crates. It is plain and slow, and meant to be read beside the rules. guard holds every answer and byte of
  * the library's calls against it.
  *
  * Each function does to what it is lent what the call of its name has to do, and answers what it has to answer.
@@ -19,6 +19,9 @@ struct span {
 struct lent {
     struct span state, words, flags, answer;
 };
+
+/* The state block of a fresh table, by itself. */
+uint64_t model_state(uint64_t n, uint32_t e, uint64_t seed, uint64_t word_cap, uint8_t *state);
 
 uint64_t model_open(uint64_t n, uint32_t e, uint64_t seed, uint64_t word_cap, struct lent lent);
 uint64_t model_search(struct lent lent, uint64_t identity);
