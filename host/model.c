@@ -10,22 +10,18 @@
 
 __extension__ typedef unsigned __int128 two_words;
 
-/* ---- words lent as bytes */
+/* ---- words lent as bytes: little-endian, as the machine's own are */
 
 static uint64_t word_at(const uint8_t *bytes, size_t offset)
 {
-    uint64_t value = 0;
-    int i;
-    for (i = 7; i >= 0; i--)
-        value = value * 256 + bytes[offset + (size_t)i];
+    uint64_t value;
+    memcpy(&value, bytes + offset, sizeof value);
     return value;
 }
 
 static void put_word(uint8_t *bytes, size_t offset, uint64_t value)
 {
-    size_t i;
-    for (i = 0; i < 8; i++, value /= 256)
-        bytes[offset + i] = (uint8_t)(value % 256);
+    memcpy(bytes + offset, &value, sizeof value);
 }
 
 /* ---- layouts */
@@ -151,7 +147,7 @@ static bool set_special(struct layout *layout)
 }
 
 /* The layout of n and e, or the refusal: "1 to 7 by number". With e above 23,170 alpha * beta is above every n that is taken. */
-static uint64_t layout_of(uint64_t n, uint32_t e, struct layout *layout)
+static uint64_t work_layout_out(uint64_t n, uint32_t e, struct layout *layout)
 {
     memset(layout, 0, sizeof *layout);
     if (n < 2)
@@ -177,6 +173,24 @@ static uint64_t layout_of(uint64_t n, uint32_t e, struct layout *layout)
     layout->fallback_buckets = layout->fallback / (2 * layout->g);
     layout->buckets = (n - layout->s) / layout->beta;
     return set_counts(layout) ? 0 : LANDOVIREPH_REFUSED_LAYOUT;
+}
+
+/* The same, remembered: the calls of one run ask for the same few tables again and again. */
+static uint64_t layout_of(uint64_t n, uint32_t e, struct layout *layout)
+{
+    static struct {
+        uint64_t n, refused;
+        uint32_t e;
+        struct layout layout;
+    } known[256], *here;
+    here = &known[(n * 31 + e) % 256];
+    if (here->n != n || here->e != e || n == 0) {
+        here->n = n;
+        here->e = e;
+        here->refused = work_layout_out(n, e, &here->layout);
+    }
+    *layout = here->layout;
+    return here->refused;
 }
 
 /* The words of a state block from the maximum on: those that the layout gives. */
@@ -409,9 +423,9 @@ static bool next_fallback(struct path *path, struct place *place)
 /* The next slot of the path; false at its end, or where a draw is refused. */
 static bool next_place(struct path *path, struct place *place)
 {
-    memset(place, 0, sizeof *place);
     if (path->part < path->table->layout.alpha)
         return next_ordinary(path, place);
+    place->level = place->bucket = 0;
     return path->part == path->table->layout.alpha ? next_primary(path, place) : next_fallback(path, place);
 }
 
@@ -600,9 +614,9 @@ static uint64_t take_all(const struct table *table, uint8_t *marks, struct span 
     if (n > MOST_SLOTS)
         abort();
     for (slot = 0; slot < n; slot++) {
-        struct waiting waiting = { path_of(table, table_word(table, slot)), { 0, 0, 0, 0, 0 }, false, false };
-        all_waiting[slot] = waiting;
         marks[slot] = 0;
+        all_waiting[slot].path = path_of(table, table_word(table, slot));
+        all_waiting[slot].on = all_waiting[slot].never = false;
     }
     for (slot = 0; slot < n && placed < table->layout.maximum;) {
         if (table->flags[slot] != 0 && marks[slot] == 0 && is_ready(table, marks, &all_waiting[slot], slot)) {

@@ -59,7 +59,7 @@
  *               an image, not as its state block, where another version may read it.
  *     images    Every later version reads the images of this one, and writes the same bytes for the same table by the same call.
  *
- * Building the archive from nothing proves the crates that it is made of, which takes some five minutes on two cores.
+ * Building the library from nothing (`make`) proves the crates that it is made of, which takes some eight minutes on two cores.
  */
 #ifndef LANDOVIREPH_H
 #define LANDOVIREPH_H
