@@ -40,7 +40,7 @@ MAJOR := $(firstword $(subst ., ,$(VERSION)))
 SONAME = liblandovireph.so.$(MAJOR)
 SHARED = liblandovireph.so.$(VERSION)
 COMPILE = $(CC) -std=gnu99 -Wall -Wextra $(CPPFLAGS) $(CFLAGS) -Iinclude
-PROGRAMS = $(OUT)/replay $(OUT)/examine $(OUT)/guard $(OUT)/range
+PROGRAMS = $(OUT)/replay $(OUT)/examine $(OUT)/guard $(OUT)/range $(OUT)/stack
 DEMONSTRATION = $(OUT)/samples $(OUT)/gridder $(OUT)/tidy $(OUT)/sources
 PACKAGE = landovireph.pc landovirephConfig.cmake landovirephConfigVersion.cmake
 
@@ -80,6 +80,7 @@ $(OUT)/replay: host/replay.c host/funnel.c host/elastic.c host/runs.c host/image
 $(OUT)/examine: host/examine.c host/look.c host/report.c host/picture.c host/limits.c host/progress.c \
     host/look.h host/report.h host/picture.h host/limits.h host/progress.h
 $(OUT)/guard: host/guard.c host/model.c host/model.h host/mix64.h
+$(OUT)/stack: host/stack.c
 $(OUT)/range: host/range.c host/model.c host/model.h
 
 $(PROGRAMS): $(HEADERS) $(OUT)/liblandovireph.a host/wrap
