@@ -1,4 +1,6 @@
 #include <landovireph.h>
+
+#include <inttypes.h>
 #include <stdio.h>
 
 #define N 156
@@ -10,7 +12,7 @@ int main(void)
                                                answer, sizeof answer);
     if (refused == LANDOVIREPH_OK)
         refused = landovireph_funnel_insert(state, sizeof state, words, sizeof words, flags, sizeof flags, 7, answer, sizeof answer);
-    printf("%s: slot %d, count %d\n", landovireph_refusal_name(refused), (int)landovireph_answer_slot(answer),
-           (int)landovireph_state_count(state));
+    printf("%s: slot %" PRIu64 ", count %" PRIu64 "\n", landovireph_refusal_name(refused), landovireph_answer_slot(answer),
+           landovireph_state_count(state));
     return refused != LANDOVIREPH_OK;
 }

@@ -5,7 +5,7 @@
 #include <stdio.h>
 #include <string.h>
 
-static void print_counts(const struct table *table)
+static void print_counts(const struct landovireph_table *table)
 {
     uint64_t i;
     for (i = 0; i < landovireph_get(table->state, LANDOVIREPH_STATE_LEVELS); i++)
@@ -19,7 +19,7 @@ bool answer_funnel_layout(struct given given)
                                     LANDOVIREPH_STATE_PRIMARY_PROBES, LANDOVIREPH_STATE_FALLBACK_BUCKET,
                                     LANDOVIREPH_STATE_SPECIAL };
     struct numbers numbers = { .kind = LANDOVIREPH_KIND_FUNNEL, .word_cap = 1 };
-    struct table table;
+    struct landovireph_table table;
     uint64_t i;
     if (!take_word(&given, &numbers.n) || !take_half_word(&given, &numbers.e) || given.count != 0)
         return false;
@@ -33,7 +33,7 @@ bool answer_funnel_layout(struct given given)
 }
 
 /* Whether the plan in the answer block is that of the table which is opened with its n. */
-static bool same_plan(const uint8_t *answer, const struct table *table)
+static bool same_plan(const uint8_t *answer, const struct landovireph_table *table)
 {
     return memcmp(answer + LANDOVIREPH_SMALLEST_MAXIMUM, table->state + LANDOVIREPH_STATE_MAXIMUM,
                   LANDOVIREPH_SMALLEST_FIRST + 8 - LANDOVIREPH_SMALLEST_MAXIMUM) == 0;
@@ -43,7 +43,7 @@ static bool same_plan(const uint8_t *answer, const struct table *table)
 static void print_smallest(const uint8_t *answer, uint32_t e)
 {
     struct numbers numbers = { .kind = LANDOVIREPH_KIND_FUNNEL, .word_cap = 1, .e = e };
-    struct table table;
+    struct landovireph_table table;
     size_t at;
     numbers.n = landovireph_get(answer, LANDOVIREPH_SMALLEST_N);
     printf("%" PRIu64, numbers.n);
@@ -79,7 +79,7 @@ bool answer_smallest(struct given given)
     return true;
 }
 
-static void print_place(const struct table *table)
+static void print_place(const struct landovireph_table *table)
 {
     static const size_t shown[] = { LANDOVIREPH_ANSWER_LEVEL, LANDOVIREPH_ANSWER_BUCKET, LANDOVIREPH_ANSWER_WITHIN,
                                     LANDOVIREPH_ANSWER_SLOT };
@@ -102,20 +102,20 @@ static void print_place(const struct table *table)
 }
 
 /* What a refused search or insertion carries. */
-static void print_refused(const struct table *table, uint64_t refused)
+static void print_refused(const struct landovireph_table *table, uint64_t refused)
 {
     printf("R %" PRIu64, refused);
-    if (refused == LANDOVIREPH_RANGE)
+    if (refused == LANDOVIREPH_REFUSED_RANGE)
         printf(" %" PRIu64, said(table, LANDOVIREPH_ANSWER_WORDS));
-    if (refused == LANDOVIREPH_DUPLICATE || refused == LANDOVIREPH_EXHAUSTED || refused == LANDOVIREPH_FULL)
+    if (refused == LANDOVIREPH_REFUSED_DUPLICATE || refused == LANDOVIREPH_REFUSED_EXHAUSTED || refused == LANDOVIREPH_REFUSED_FULL)
         printf(" %" PRIu64, said(table, LANDOVIREPH_ANSWER_PROBES));
-    if (refused == LANDOVIREPH_DUPLICATE)
+    if (refused == LANDOVIREPH_REFUSED_DUPLICATE)
         print_place(table);
 }
 
-static void ask(struct table *table, char letter, uint64_t identity)
+static void ask(struct landovireph_table *table, char letter, uint64_t identity)
 {
-    uint64_t refused = letter == 'i' ? table_insert(table, identity) : table_search(table, identity);
+    uint64_t refused = letter == 'i' ? landovireph_table_insert(table, identity) : landovireph_table_search(table, identity);
     if (refused != 0) {
         print_refused(table, refused);
         return;
@@ -128,7 +128,7 @@ static void ask(struct table *table, char letter, uint64_t identity)
     print_place(table);
 }
 
-static const struct run funnel = { "isol", ask, table_insert, { LANDOVIREPH_ANSWER_PROBES, 0 }, 1 };
+static const struct run funnel = { "isol", ask, landovireph_table_insert, { LANDOVIREPH_ANSWER_PROBES, 0 }, 1 };
 
 bool answer_funnel_run(struct given given)
 {
@@ -140,21 +140,21 @@ bool answer_funnel_run(struct given given)
 #define BATCH 4096
 
 /* Places the identities from k on up to the last or to a whole batch, by one call; how many came out of it. */
-static uint64_t place_batch(struct table *table, struct bulk bulk, uint64_t k)
+static uint64_t place_batch(struct landovireph_table *table, struct bulk bulk, uint64_t k)
 {
     static uint8_t identities[8 * BATCH], slots[8 * BATCH];
     uint64_t many = bulk.count - k + 1 < BATCH ? bulk.count - k + 1 : BATCH, i, refused;
     for (i = 0; i < many; i++)
         landovireph_put(identities, 8 * i, bulk_identity(bulk, k + i));
-    refused = table_place_all(table, identities, slots, many);
+    refused = landovireph_table_place_all(table, identities, slots, many);
     /* The identity that was refused is passed over, as the single insertions pass it. */
     return refused == 0 ? many : landovireph_answer_placed(table->answer) + 1;
 }
 
 /* Whether the same identities, placed many at a time, leave the same table. */
-static bool placing_agrees(const struct numbers *numbers, struct bulk bulk, const struct table *table)
+static bool placing_agrees(const struct numbers *numbers, struct bulk bulk, const struct landovireph_table *table)
 {
-    struct table second;
+    struct landovireph_table second;
     uint64_t k = 1;
     bool agrees;
     if (table_open(&second, numbers, bounds.slots) != 0)
@@ -169,7 +169,7 @@ static bool placing_agrees(const struct numbers *numbers, struct bulk bulk, cons
 bool answer_funnel_bulk(struct given given)
 {
     struct numbers numbers;
-    struct table table;
+    struct landovireph_table table;
     struct bulk bulk;
     if (!take_funnel(&given, &numbers) || !take_bulk(given, &bulk))
         return false;

@@ -5,13 +5,15 @@
  *
  * Each call's blocks and buffers are lent so that the byte behind the last one, or before the first one, cannot be touched; the
  * two kinds alternate. The tables are honest ones at first; then blocks get other lengths and other bytes, states are made up,
- * members moved, doubled and taken out, images damaged, buffers filled with noise. After each call the program tests what may
- * have changed and what must not, and what the answer block holds (include/landovireph.h). It ends with the first call that did
- * otherwise, or with how often each call answered each number.
+ * members moved, doubled and taken out, images damaged, buffers filled with noise; an empty buffer is a null pointer now and then.
+ * After each call the program tests what may have changed and what must not, and what the answer block holds
+ * (include/landovireph.h); and after each call on a funnel table, that its answer and every byte of what it was lent are those of the
+ * model (model.h). It ends with the first call that did otherwise, or with how often each call answered each number.
  * Exit status: 0, or 1 with a message, or 2 for a wrong argument or where writing fails; the same CALLS and SEED make the same calls.
  */
 #include "landovireph.h"
 #include "mix64.h"
+#include "model.h"
 
 #include <inttypes.h>
 #include <signal.h>
@@ -428,7 +430,7 @@ static void keeps_rules(uint64_t result, const struct may *may)
 {
     count(result);
     if (!holds_table())
-        must(result == LANDOVIREPH_STATE, "a block that holds no such table was taken");
+        must(result == LANDOVIREPH_REFUSED_STATE, "a block that holds no such table was taken");
     keeps_answers(result, may, !holds_table());
 }
 
@@ -457,17 +459,58 @@ static void keep_table(void)
     memcpy(table->flags, arenas[FLAGS].at, table->n);
 }
 
-#define TABLE arenas[STATE].at, arenas[STATE].length, arenas[WORDS].at, arenas[WORDS].length, arenas[FLAGS].at, arenas[FLAGS].length
-#define LENT(which) arenas[which].at, arenas[which].length
+/* Where the arena's bytes are: nowhere, in one of three turns, where there are none. */
+static uint8_t *lent_at(int which)
+{
+    return arenas[which].length == 0 && turn % 3 == 0 ? NULL : arenas[which].at;
+}
+
+#define LENT(which) lent_at(which), arenas[which].length
+#define TABLE LENT(STATE), LENT(WORDS), LENT(FLAGS)
+
+/* ---- the model: what is lent is copied before the call, the model does to the copies what is to be done, and both are compared */
+
+static uint8_t expected[ARENAS][ROOM];
+static bool compared[ARENAS];
+
+static struct span expect(int which)
+{
+    struct span span = { expected[which], arenas[which].length };
+    memcpy(expected[which], arenas[which].at, arenas[which].length);
+    compared[which] = true;
+    return span;
+}
+
+static struct lent expect_table(void)
+{
+    struct lent lent;
+    memset(compared, 0, sizeof compared);
+    lent.state = expect(STATE);
+    lent.words = expect(WORDS);
+    lent.flags = expect(FLAGS);
+    lent.answer = expect(ANSWER);
+    return lent;
+}
+
+static void agrees(uint64_t result, uint64_t wanted)
+{
+    int which;
+    must(result == wanted, "the model answers another number");
+    for (which = 0; which < ARENAS; which++)
+        if (compared[which])
+            must(memcmp(arenas[which].at, expected[which], arenas[which].length) == 0, "the model leaves other bytes");
+}
 
 /* ---- the calls */
 
 static void try_search(void)
 {
-    static const struct may may[] = { { 0, PROBES | PLACE | FOUND }, { LANDOVIREPH_RANGE, RANGE_WORDS },
-                                      { LANDOVIREPH_FULL, PROBES },  { -1, 0 } };
+    static const struct may may[] = { { 0, PROBES | PLACE | FOUND }, { LANDOVIREPH_REFUSED_RANGE, RANGE_WORDS },
+                                      { LANDOVIREPH_REFUSED_FULL, PROBES },  { -1, 0 } };
     uint64_t identity = asked(), slot;
+    uint64_t wanted = model_search(expect_table(), identity);
     uint64_t result = landovireph_funnel_search(TABLE, identity, LENT(ANSWER));
+    agrees(result, wanted);
     keeps_rules(result, may);
     keeps_table();
     if (result != 0)
@@ -491,11 +534,13 @@ static void keeps_entered(uint64_t slot, uint64_t identity)
 
 static void try_insert(void)
 {
-    static const struct may may[] = { { 0, PROBES | PLACE },          { LANDOVIREPH_RANGE, RANGE_WORDS },
-                                      { LANDOVIREPH_DUPLICATE, PROBES | PLACE }, { LANDOVIREPH_EXHAUSTED, PROBES },
-                                      { LANDOVIREPH_FULL, PROBES },   { -1, 0 } };
+    static const struct may may[] = { { 0, PROBES | PLACE },          { LANDOVIREPH_REFUSED_RANGE, RANGE_WORDS },
+                                      { LANDOVIREPH_REFUSED_DUPLICATE, PROBES | PLACE }, { LANDOVIREPH_REFUSED_EXHAUSTED, PROBES },
+                                      { LANDOVIREPH_REFUSED_FULL, PROBES },   { -1, 0 } };
     uint64_t identity = one_in(4) ? asked() : member(), slot;
+    uint64_t wanted = model_insert(expect_table(), identity);
     uint64_t result = landovireph_funnel_insert(TABLE, identity, LENT(ANSWER));
+    agrees(result, wanted);
     keeps_rules(result, may);
     if (result != 0) {
         keeps_table();
@@ -530,20 +575,24 @@ static void keeps_placed(uint64_t placed)
 
 static void try_place_all(void)
 {
-    static const struct may may[] = { { 0, PLACED }, { LANDOVIREPH_RANGE, RANGE_WORDS | PLACED },
-                                      { LANDOVIREPH_EXHAUSTED, PROBES | PLACED }, { LANDOVIREPH_FULL, PROBES | PLACED }, { -1, 0 } };
+    static const struct may may[] = { { 0, PLACED }, { LANDOVIREPH_REFUSED_RANGE, RANGE_WORDS | PLACED },
+                                      { LANDOVIREPH_REFUSED_EXHAUSTED, PROBES | PLACED }, { LANDOVIREPH_REFUSED_FULL, PROBES | PLACED }, { -1, 0 } };
     uint8_t identities[8 * MOST_IDENTITIES] = { 0 };
-    uint64_t k, result, many = below(MOST_IDENTITIES + 1);
+    uint64_t k, result, wanted, many = below(MOST_IDENTITIES + 1);
+    struct lent lent;
     for (k = 0; k < many; k++)
         landovireph_put(identities, 8 * k, member());
     lend(IDENTITIES, identities, 8 * many);
     lend_noise(SLOTS, 8 * (many + below(3)));
     resize(IDENTITIES, about(8 * many));
     resize(SLOTS, about(arenas[SLOTS].length));
+    lent = expect_table();
+    wanted = model_place_all(lent, expect(IDENTITIES), expect(SLOTS));
     result = landovireph_funnel_place_all(TABLE, LENT(IDENTITIES), LENT(SLOTS), LENT(ANSWER));
+    agrees(result, wanted);
     keeps_rules(result, may);
     must(same(IDENTITIES), "identities were changed");
-    if (result != 0 && result != LANDOVIREPH_RANGE && result != LANDOVIREPH_EXHAUSTED && result != LANDOVIREPH_FULL) {
+    if (result != 0 && result != LANDOVIREPH_REFUSED_RANGE && result != LANDOVIREPH_REFUSED_EXHAUSTED && result != LANDOVIREPH_REFUSED_FULL) {
         must(same(SLOTS), "a refusal wrote slots");
         keeps_table();
         return;
@@ -586,14 +635,18 @@ static void keeps_verdict(uint64_t result)
 
 static void try_check(void)
 {
-    static const struct may may[] = { { 0, PLACED }, { LANDOVIREPH_DIRTY, SLOT }, { LANDOVIREPH_DISORDER, PLACED | SLOT }, { -1, 0 } };
-    uint64_t result;
+    static const struct may may[] = { { 0, PLACED }, { LANDOVIREPH_REFUSED_DIRTY, SLOT }, { LANDOVIREPH_REFUSED_DISORDER, PLACED | SLOT }, { -1, 0 } };
+    struct lent lent;
+    uint64_t result, wanted;
     lend_noise(MARKS, about(table->n));
     lend_noise(ORDER, about(8 * table->n));
+    lent = expect_table();
+    wanted = model_check(lent, expect(MARKS), expect(ORDER));
     result = landovireph_funnel_check(TABLE, LENT(MARKS), LENT(ORDER), LENT(ANSWER));
+    agrees(result, wanted);
     keeps_rules(result, may);
     keeps_table();
-    if (result == 0 || result == LANDOVIREPH_DISORDER) {
+    if (result == 0 || result == LANDOVIREPH_REFUSED_DISORDER) {
         keeps_marks(landovireph_answer_placed(arenas[ANSWER].at));
         keeps_verdict(result);
     } else {
@@ -655,14 +708,18 @@ static void writes_again(void)
 
 static void try_load(void)
 {
-    static const struct may may[] = { { 0, LABEL_AT }, { LANDOVIREPH_IMAGE, BYTE }, { LANDOVIREPH_FOREIGN, 0 }, { -1, 0 } };
+    static const struct may may[] = { { 0, LABEL_AT }, { LANDOVIREPH_REFUSED_IMAGE, BYTE }, { LANDOVIREPH_REFUSED_FOREIGN, 0 }, { -1, 0 } };
     static uint8_t image[ROOM];
     size_t length = image_of(one_in(4) || table->elastic ? &pool[below(POOL)] : table, image, sizeof image);
-    uint64_t result;
+    struct lent lent;
+    uint64_t result, wanted;
     if (one_in(2))
         length = damage_image(image, length);
     lend(IMAGE, image, length);
+    lent = expect_table();
+    wanted = model_load(lent, expect(IMAGE));
     result = landovireph_funnel_load(TABLE, LENT(IMAGE), LENT(ANSWER));
+    agrees(result, wanted);
     keeps_rules(result, may);
     must(same(IMAGE), "the image was changed");
     if (result != 0) {
@@ -675,18 +732,22 @@ static void try_load(void)
 
 static void try_write(void)
 {
-    static const struct may may[] = { { 0, IMAGE_BYTES }, { LANDOVIREPH_DIRTY, SLOT }, { LANDOVIREPH_ROOM, IMAGE_BYTES }, { -1, 0 } };
-    uint64_t members = 0, k, result, needed, label_length = one_in(3) ? below(80) : 0;
+    static const struct may may[] = { { 0, IMAGE_BYTES }, { LANDOVIREPH_REFUSED_DIRTY, SLOT }, { LANDOVIREPH_REFUSED_ROOM, IMAGE_BYTES }, { -1, 0 } };
+    uint64_t members = 0, k, result, wanted, needed, label_length = one_in(3) ? below(80) : 0;
+    struct lent lent;
     lend_noise(LABEL, label_length);
     for (k = 0; k < arenas[FLAGS].length; k++)
         members += arenas[FLAGS].at[k] != 0;
     needed = landovireph_image_bytes(members, label_length);
     lend_noise(IMAGE, needed <= ROOM / 2 ? about(needed) : ROOM / 2);
+    lent = expect_table();
+    wanted = model_write(lent, expect(LABEL), expect(IMAGE));
     result = landovireph_funnel_write(TABLE, LENT(LABEL), LENT(IMAGE), LENT(ANSWER));
+    agrees(result, wanted);
     keeps_rules(result, may);
     keeps_table();
     must(same(LABEL), "the label was changed");
-    if (result == LANDOVIREPH_ROOM)
+    if (result == LANDOVIREPH_REFUSED_ROOM)
         must(landovireph_get(arenas[ANSWER].at, LANDOVIREPH_ANSWER_IMAGE_BYTES) == needed && needed > arenas[IMAGE].length,
              "ROOM without the length that is needed");
     if (result != 0) {
@@ -705,7 +766,7 @@ static void keeps_opened(uint64_t result, uint64_t n)
     static const struct may may[] = { { 0, 0 }, { -1, 0 } };
     bool other_state = arenas[STATE].length != LANDOVIREPH_STATE_BYTES;
     count(result);
-    keeps_answers(result, may, other_state && result == LANDOVIREPH_STATE);
+    keeps_answers(result, may, other_state && result == LANDOVIREPH_REFUSED_STATE);
     if (result != 0) {
         keeps_table();
         return;
@@ -730,8 +791,12 @@ static uint32_t strange_e(void)
 
 static void try_open(void)
 {
-    uint64_t n = strange_n(), cap = one_in(6) ? below(300) : table->cap;
-    keeps_opened(landovireph_funnel_open(n, strange_e(), table->seed, cap, TABLE, LENT(ANSWER)), n);
+    uint64_t n = strange_n(), cap = one_in(6) ? below(300) : table->cap, result;
+    uint32_t e = strange_e();
+    uint64_t wanted = model_open(n, e, table->seed, cap, expect_table());
+    result = landovireph_funnel_open(n, e, table->seed, cap, TABLE, LENT(ANSWER));
+    agrees(result, wanted);
+    keeps_opened(result, n);
 }
 
 /* Whether a table of n slots has a layout and takes so many members: open with empty buffers is STATE, which comes last. */
@@ -778,9 +843,9 @@ static void try_elastic_open(void)
 
 static void try_elastic_insert(void)
 {
-    static const struct may may[] = { { 0, ELASTIC_INSERTED },       { LANDOVIREPH_DUPLICATE, SLOT }, { LANDOVIREPH_EXHAUSTED, 0 },
-                                      { LANDOVIREPH_SCHEDULE, 0 },   { LANDOVIREPH_RANGE, RANGE_WORDS }, { LANDOVIREPH_SEARCH, 0 },
-                                      { LANDOVIREPH_POSITION, 0 },   { -1, 0 } };
+    static const struct may may[] = { { 0, ELASTIC_INSERTED },       { LANDOVIREPH_REFUSED_DUPLICATE, SLOT }, { LANDOVIREPH_REFUSED_EXHAUSTED, 0 },
+                                      { LANDOVIREPH_REFUSED_SCHEDULE, 0 },   { LANDOVIREPH_REFUSED_RANGE, RANGE_WORDS }, { LANDOVIREPH_REFUSED_SEARCH, 0 },
+                                      { LANDOVIREPH_REFUSED_POSITION, 0 },   { -1, 0 } };
     uint64_t identity = one_in(4) ? asked() : member(), slot, level;
     uint64_t result = landovireph_elastic_insert(TABLE, identity, LENT(ANSWER));
     keeps_rules(result, may);
@@ -801,7 +866,7 @@ static void try_elastic_query(void)
 {
     static const struct may may[] = { { 0, SLOT | RANGE_WORDS | BIT(LANDOVIREPH_ANSWER_POSITION) | BIT(LANDOVIREPH_ANSWER_MAPPED) |
                                             BIT(LANDOVIREPH_ANSWER_GAP) },
-                                      { LANDOVIREPH_RANGE, RANGE_WORDS }, { LANDOVIREPH_ABSENT, 0 }, { -1, 0 } };
+                                      { LANDOVIREPH_REFUSED_RANGE, RANGE_WORDS }, { LANDOVIREPH_REFUSED_ABSENT, 0 }, { -1, 0 } };
     uint64_t identity = asked(), slot;
     uint64_t result = landovireph_elastic_query(TABLE, identity, LENT(ANSWER));
     keeps_rules(result, may);
@@ -877,7 +942,7 @@ int main(int words, char **word)
     for (turn = 1; turn <= calls; turn++)
         one_call();
     print_tally();
-    printf("guard: %" PRIu64 " calls of seed %" PRIu64 ", every buffer against a guard page, no rule broken\n", calls, seed_given);
+    printf("guard: %" PRIu64 " calls of seed %" PRIu64 ", every buffer against a guard page, no rule broken; funnel calls as the model\n", calls, seed_given);
     if (fflush(stdout) != 0 || ferror(stdout)) {
         perror("guard");
         return 2;

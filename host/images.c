@@ -8,7 +8,7 @@
 #include <string.h>
 
 /* A copy of all that a call is lent of a table, to see what it left. */
-static void copy_table(struct table *copy, const struct table *table)
+static void copy_table(struct landovireph_table *copy, const struct landovireph_table *table)
 {
     *copy = *table;
     copy->words = must_have(8 * table->n);
@@ -32,28 +32,28 @@ static bool is_filled(const uint8_t *bytes, size_t from, size_t to, uint8_t with
 }
 
 /* A refusal, with the slot of DIRTY or the byte place of IMAGE. */
-static void print_refused(const struct table *table, uint64_t refused)
+static void print_refused(const struct landovireph_table *table, uint64_t refused)
 {
     printf("R %" PRIu64, refused);
-    if (refused == LANDOVIREPH_DIRTY)
+    if (refused == LANDOVIREPH_REFUSED_DIRTY)
         printf(" %" PRIu64, said(table, LANDOVIREPH_ANSWER_SLOT));
-    if (refused == LANDOVIREPH_IMAGE)
+    if (refused == LANDOVIREPH_REFUSED_IMAGE)
         printf(" %" PRIu64, said(table, LANDOVIREPH_ANSWER_BYTE));
 }
 
-static void fill_for_loading(struct table *table)
+static void fill_for_loading(struct landovireph_table *table)
 {
     uint64_t slot;
     for (slot = 0; slot < table->n; slot++)
         table_set(table, slot, slot + 1, 1);
 }
 
-static void print_loaded(struct table *table, const uint8_t *image, size_t length)
+static void print_loaded(struct landovireph_table *table, const uint8_t *image, size_t length)
 {
-    struct table before;
+    struct landovireph_table before;
     uint64_t refused;
     copy_table(&before, table);
-    refused = table_load(table, image, length);
+    refused = landovireph_table_load(table, image, length);
     if (refused == 0) {
         printf("OK %" PRIu64 " %" PRIu64 " %" PRIu64 " %016" PRIx64, said(table, LANDOVIREPH_ANSWER_LABEL),
                said(table, LANDOVIREPH_ANSWER_LABEL_BYTES), landovireph_state_count(table->state), table_digest(table));
@@ -67,7 +67,7 @@ static void print_loaded(struct table *table, const uint8_t *image, size_t lengt
 bool answer_load(struct given given)
 {
     struct numbers numbers;
-    struct table table;
+    struct landovireph_table table;
     uint8_t *image;
     size_t length;
     if (!take_funnel(&given, &numbers) || given.count != 1)
@@ -96,7 +96,7 @@ static bool are_entries(struct given entries, uint64_t n)
     return true;
 }
 
-static void set_entries(struct table *table, struct given entries)
+static void set_entries(struct landovireph_table *table, struct given entries)
 {
     struct entry entry;
     size_t i;
@@ -115,14 +115,14 @@ struct writing {
 /* What is in a buffer that a call is to write, before it does. */
 #define UNWRITTEN 0xA5
 
-static void print_written(struct table *table, struct writing writing)
+static void print_written(struct landovireph_table *table, struct writing writing)
 {
-    struct table before;
+    struct landovireph_table before;
     uint8_t *image = must_have(writing.room);
     uint64_t refused, length = 0, i;
     copy_table(&before, table);
     memset(image, UNWRITTEN, writing.room);
-    refused = table_write(table, writing.label, writing.label_length, image, writing.room);
+    refused = landovireph_table_write(table, writing.label, writing.label_length, image, writing.room);
     if (refused == 0) {
         length = said(table, LANDOVIREPH_ANSWER_IMAGE_BYTES);
         printf("OK %" PRIu64 " ", length);
@@ -139,13 +139,13 @@ static void print_written(struct table *table, struct writing writing)
 /* A label that is too long is LIMITS, which comes before what bounds this program. */
 static void write_opened(const struct numbers *numbers, struct writing writing, struct given entries)
 {
-    struct table table;
+    struct landovireph_table table;
     uint64_t refused = table_open(&table, numbers, bounds.slots);
     bool too_large = refused == TABLE_TOO_LARGE || writing.room > bounds.room;
     if (refused != 0 && refused != TABLE_TOO_LARGE) {
         printf("R %" PRIu64, refused);
     } else if (too_large && writing.label_length > 64) {
-        printf("R %d", LANDOVIREPH_LIMITS);
+        printf("R %d", LANDOVIREPH_REFUSED_LIMITS);
     } else if (too_large) {
         printf("L");
     } else {
@@ -201,7 +201,7 @@ static bool marks_agree(const uint8_t *marks, const uint8_t *order, uint64_t pla
 }
 
 /* Both endings of a check: how many were placed, of DISORDER the slot, and the order. */
-static void print_ending(const struct table *table, uint64_t refused, const uint8_t *order)
+static void print_ending(const struct landovireph_table *table, uint64_t refused, const uint8_t *order)
 {
     uint64_t placed = landovireph_answer_placed(table->answer);
     printf(refused == 0 ? "OK %" PRIu64 : "R 23 %" PRIu64, placed);
@@ -210,17 +210,17 @@ static void print_ending(const struct table *table, uint64_t refused, const uint
     print_order(order, placed);
 }
 
-static void print_checked(struct table *table)
+static void print_checked(struct landovireph_table *table)
 {
-    struct table before;
+    struct landovireph_table before;
     uint8_t *marks = must_have(table->n), *order = must_have(8 * table->n);
     uint64_t refused;
     bool right;
     copy_table(&before, table);
     memset(marks, 9, table->n);
     memset(order, 255, 8 * table->n);
-    refused = table_check(table, marks, order);
-    if (refused == 0 || refused == LANDOVIREPH_DISORDER) {
+    refused = landovireph_table_check(table, marks, order);
+    if (refused == 0 || refused == LANDOVIREPH_REFUSED_DISORDER) {
         print_ending(table, refused, order);
         right = marks_agree(marks, order, landovireph_answer_placed(table->answer), table->n);
     } else {
@@ -236,7 +236,7 @@ static void print_checked(struct table *table)
 bool answer_check(struct given given)
 {
     struct numbers numbers;
-    struct table table;
+    struct landovireph_table table;
     uint64_t count;
     if (!take_funnel(&given, &numbers) || !take_word(&given, &count) || !are_entries(given, numbers.n))
         return false;

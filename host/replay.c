@@ -58,7 +58,7 @@ bool take_elastic(struct given *given, struct numbers *numbers)
            take_word(given, &numbers->position_cap);
 }
 
-bool open_or_say(struct table *table, const struct numbers *numbers)
+bool open_or_say(struct landovireph_table *table, const struct numbers *numbers)
 {
     uint64_t refused = table_open(table, numbers, bounds.slots);
     if (refused == TABLE_TOO_LARGE)
@@ -68,19 +68,19 @@ bool open_or_say(struct table *table, const struct numbers *numbers)
     return refused == 0;
 }
 
-uint64_t said(const struct table *table, size_t offset)
+uint64_t said(const struct landovireph_table *table, size_t offset)
 {
     return landovireph_get(table->answer, offset);
 }
 
-void print_said(const struct table *table, const size_t *offsets, size_t count)
+void print_said(const struct landovireph_table *table, const size_t *offsets, size_t count)
 {
     size_t i;
     for (i = 0; i < count; i++)
         printf(" %" PRIu64, said(table, offsets[i]));
 }
 
-bool same_table(const struct table *a, const struct table *b)
+bool same_table(const struct landovireph_table *a, const struct landovireph_table *b)
 {
     return memcmp(a->state, b->state, sizeof a->state) == 0 && memcmp(a->words, b->words, 8 * a->n) == 0 &&
            memcmp(a->flags, b->flags, a->n) == 0;

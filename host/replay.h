@@ -27,16 +27,16 @@ bool take_funnel(struct given *given, struct numbers *numbers);
 bool take_elastic(struct given *given, struct numbers *numbers);
 
 /* Opens the table, or prints why there is none. */
-bool open_or_say(struct table *table, const struct numbers *numbers);
+bool open_or_say(struct landovireph_table *table, const struct numbers *numbers);
 
 /* Numbers of the answer block, each with a space before it. */
-void print_said(const struct table *table, const size_t *offsets, size_t count);
+void print_said(const struct landovireph_table *table, const size_t *offsets, size_t count);
 
 /* The answer of a call that is a word alone. */
-uint64_t said(const struct table *table, size_t offset);
+uint64_t said(const struct landovireph_table *table, size_t offset);
 
 /* Whether two tables of one size have the same bytes. */
-bool same_table(const struct table *a, const struct table *b);
+bool same_table(const struct landovireph_table *a, const struct landovireph_table *b);
 
 /* Each prints the answer to a command, or answers false where its fields are of another form. */
 bool answer_funnel_layout(struct given given);

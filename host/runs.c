@@ -40,7 +40,7 @@ static bool read_operation(const struct run *run, struct field field, uint64_t n
     return field_pair(rest, &operation->at, &operation->value) && operation->at < (operation->letter == 'o' ? n : LEVELS);
 }
 
-static void run_operation(const struct run *run, struct table *table, struct operation operation)
+static void run_operation(const struct run *run, struct landovireph_table *table, struct operation operation)
 {
     switch (operation.letter) {
     case 'o':
@@ -59,7 +59,7 @@ static void run_operation(const struct run *run, struct table *table, struct ope
 }
 
 /* The level counts of an elastic table joined by commas, and the digest. */
-static void print_end(const struct table *table)
+static void print_end(const struct landovireph_table *table)
 {
     uint64_t levels = 0, i;
     if (landovireph_state_kind(table->state) == LANDOVIREPH_KIND_ELASTIC)
@@ -72,7 +72,7 @@ static void print_end(const struct table *table)
 bool answer_run(const struct run *run, const struct numbers *numbers, struct given operations)
 {
     struct operation operation;
-    struct table table;
+    struct landovireph_table table;
     size_t i;
     for (i = 0; i < operations.count; i++)
         if (!read_operation(run, operations.fields[i], numbers->n, &operation))
@@ -102,7 +102,7 @@ static void print_tally(const uint64_t *tally)
         printf(" -");
 }
 
-void run_bulk(const struct run *run, struct bulk bulk, struct table *table)
+void run_bulk(const struct run *run, struct bulk bulk, struct landovireph_table *table)
 {
     uint64_t k, tally[RESULTS] = { 0 }, sums[2] = { 0 };
     size_t i;

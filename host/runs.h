@@ -14,8 +14,8 @@ uint64_t bulk_identity(struct bulk bulk, uint64_t k);
 /* What a run on one kind of table has of its own. */
 struct run {
     const char *letters;                                              /* the operations that it takes */
-    void (*ask)(struct table *table, char letter, uint64_t identity); /* prints the answer to i, q or s */
-    uint64_t (*insert)(struct table *table, uint64_t identity);
+    void (*ask)(struct landovireph_table *table, char letter, uint64_t identity); /* prints the answer to i, q or s */
+    uint64_t (*insert)(struct landovireph_table *table, uint64_t identity);
     size_t summed[2]; /* the words of the answer block whose sums a bulk run tells: */
     size_t sums;      /* so many */
 };
@@ -24,7 +24,7 @@ struct run {
 bool answer_run(const struct run *run, const struct numbers *numbers, struct given operations);
 
 /* Inserts all of a bulk run and prints the table's count, the refusals, the sums, and the end of a run. */
-void run_bulk(const struct run *run, struct bulk bulk, struct table *table);
+void run_bulk(const struct run *run, struct bulk bulk, struct landovireph_table *table);
 
 /* Reads start and count, the last two fields of a bulk run. */
 bool take_bulk(struct given given, struct bulk *bulk);

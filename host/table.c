@@ -7,10 +7,6 @@
 /* Bytes beside each slot, at most: two tables (9 each), marks and order of a check (9), a word for a list. */
 #define BYTES_BESIDE_A_SLOT 40
 
-#define STATE(table) (table)->state, sizeof (table)->state
-#define BUFFERS(table) (table)->words, 8 * (table)->n, (table)->flags, (table)->n
-#define ANSWER(table) (table)->answer, sizeof (table)->answer
-
 void *must_have(size_t bytes)
 {
     return must_have_again(NULL, bytes);
@@ -34,25 +30,24 @@ uint64_t table_most_slots(void)
     return (uint64_t)pages * (uint64_t)page / BYTES_BESIDE_A_SLOT;
 }
 
-static uint64_t open_lent(struct table *table, const struct numbers *numbers)
+static uint64_t open_lent(struct landovireph_table *table, const struct numbers *numbers)
 {
     if (numbers->kind == LANDOVIREPH_KIND_ELASTIC)
         return landovireph_elastic_open(numbers->n, numbers->e, numbers->seed, numbers->c, numbers->word_cap, numbers->search_cap,
-                                        numbers->position_cap, STATE(table), BUFFERS(table), ANSWER(table));
-    return landovireph_funnel_open(numbers->n, numbers->e, numbers->seed, numbers->word_cap, STATE(table), BUFFERS(table),
-                                   ANSWER(table));
+                                        numbers->position_cap, LANDOVIREPH_TABLE_BLOCKS(table), LANDOVIREPH_TABLE_ANSWER(table));
+    return landovireph_funnel_open(numbers->n, numbers->e, numbers->seed, numbers->word_cap, LANDOVIREPH_TABLE_BLOCKS(table),
+                                   LANDOVIREPH_TABLE_ANSWER(table));
 }
 
 /* Every n above 1 makes empty buffers STATE, which is the last test: what comes before it is told without any memory. */
-uint64_t table_open(struct table *table, const struct numbers *numbers, uint64_t most_slots)
+uint64_t table_open(struct landovireph_table *table, const struct numbers *numbers, uint64_t most_slots)
 {
-    uint8_t none[2];
     uint64_t refused;
     table->n = 0;
-    table->words = none;
-    table->flags = none + 1;
+    table->words = NULL;
+    table->flags = NULL;
     refused = open_lent(table, numbers);
-    if (refused != LANDOVIREPH_STATE)
+    if (refused != LANDOVIREPH_REFUSED_STATE)
         return refused;
     if (numbers->n > most_slots)
         return TABLE_TOO_LARGE;
@@ -65,53 +60,13 @@ uint64_t table_open(struct table *table, const struct numbers *numbers, uint64_t
     return refused;
 }
 
-void table_close(struct table *table)
+void table_close(struct landovireph_table *table)
 {
     free(table->words);
     free(table->flags);
 }
 
-uint64_t table_insert(struct table *table, uint64_t identity)
-{
-    return landovireph_funnel_insert(STATE(table), BUFFERS(table), identity, ANSWER(table));
-}
-
-uint64_t table_search(struct table *table, uint64_t identity)
-{
-    return landovireph_funnel_search(STATE(table), BUFFERS(table), identity, ANSWER(table));
-}
-
-uint64_t table_elastic_insert(struct table *table, uint64_t identity)
-{
-    return landovireph_elastic_insert(STATE(table), BUFFERS(table), identity, ANSWER(table));
-}
-
-uint64_t table_elastic_query(struct table *table, uint64_t identity)
-{
-    return landovireph_elastic_query(STATE(table), BUFFERS(table), identity, ANSWER(table));
-}
-
-uint64_t table_place_all(struct table *table, const uint8_t *identities, uint8_t *slots, size_t many)
-{
-    return landovireph_funnel_place_all(STATE(table), BUFFERS(table), identities, 8 * many, slots, 8 * many, ANSWER(table));
-}
-
-uint64_t table_check(struct table *table, uint8_t *marks, uint8_t *order)
-{
-    return landovireph_funnel_check(STATE(table), BUFFERS(table), marks, table->n, order, 8 * table->n, ANSWER(table));
-}
-
-uint64_t table_load(struct table *table, const uint8_t *image, size_t image_bytes)
-{
-    return landovireph_funnel_load(STATE(table), BUFFERS(table), image, image_bytes, ANSWER(table));
-}
-
-uint64_t table_write(struct table *table, const uint8_t *label, size_t label_bytes, uint8_t *image, size_t room)
-{
-    return landovireph_funnel_write(STATE(table), BUFFERS(table), label, label_bytes, image, room, ANSWER(table));
-}
-
-void table_set(struct table *table, uint64_t slot, uint64_t identity, uint8_t flag)
+void table_set(struct landovireph_table *table, uint64_t slot, uint64_t identity, uint8_t flag)
 {
     landovireph_put(table->words, 8 * slot, identity);
     table->flags[slot] = flag;
@@ -125,7 +80,7 @@ static uint64_t fnv(uint64_t hash, uint64_t word)
     return hash;
 }
 
-uint64_t table_digest(const struct table *table)
+uint64_t table_digest(const struct landovireph_table *table)
 {
     uint64_t hash = 0xcbf29ce484222325u, slot;
     for (slot = 0; slot < table->n; slot++)

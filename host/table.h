@@ -2,7 +2,7 @@
 #ifndef HOST_TABLE_H
 #define HOST_TABLE_H
 
-#include "landovireph.h"
+#include "landovireph_table.h"
 
 /* No refusal has this number: the table has a layout, but is larger than the machine or the given bound holds. */
 #define TABLE_TOO_LARGE 1000
@@ -15,37 +15,18 @@ struct numbers {
     uint64_t c, search_cap, position_cap;
 };
 
-/* A table with its blocks and buffers; lent whole to every call. */
-struct table {
-    uint64_t n;
-    uint8_t state[LANDOVIREPH_STATE_BYTES];
-    uint8_t answer[LANDOVIREPH_ANSWER_BYTES];
-    uint8_t *words;
-    uint8_t *flags;
-};
-
 /* The most slots for which the machine's memory holds a table and all that is needed beside it. */
 uint64_t table_most_slots(void);
 
 /* A fresh table of at most most_slots: 0, a refusal from 1 to 6, or TABLE_TOO_LARGE. To be closed only after 0. */
-uint64_t table_open(struct table *table, const struct numbers *numbers, uint64_t most_slots);
-void table_close(struct table *table);
-
-/* The exported calls of these names, on all of a table. */
-uint64_t table_insert(struct table *table, uint64_t identity);
-uint64_t table_search(struct table *table, uint64_t identity);
-uint64_t table_elastic_insert(struct table *table, uint64_t identity);
-uint64_t table_elastic_query(struct table *table, uint64_t identity);
-uint64_t table_place_all(struct table *table, const uint8_t *identities, uint8_t *slots, size_t many);
-uint64_t table_check(struct table *table, uint8_t *marks, uint8_t *order);
-uint64_t table_load(struct table *table, const uint8_t *image, size_t image_bytes);
-uint64_t table_write(struct table *table, const uint8_t *label, size_t label_bytes, uint8_t *image, size_t room);
+uint64_t table_open(struct landovireph_table *table, const struct numbers *numbers, uint64_t most_slots);
+void table_close(struct landovireph_table *table);
 
 /* A slot's word and flag, as the caller wishes. */
-void table_set(struct table *table, uint64_t slot, uint64_t identity, uint8_t flag);
+void table_set(struct landovireph_table *table, uint64_t slot, uint64_t identity, uint8_t flag);
 
 /* FNV-1a, 64 bits, over slot and identity of the occupied slots in rising order. */
-uint64_t table_digest(const struct table *table);
+uint64_t table_digest(const struct landovireph_table *table);
 
 /* Memory, or the end of the program with a message and status 3. */
 void *must_have(size_t bytes);

@@ -22,13 +22,15 @@ void *memory(size_t count, size_t size);
 /* The bytes of a file; of a longer one than `most` one byte more, and no others. */
 struct bytes read_file(const char *path, size_t most);
 
-/* Writes what is to become a file beside it, under the name PATH.part. */
+/* Writes what is to become a file into a new folder beside its place, .part-XXXXXX. Ends the program where no file can be put there,
+ * or two files have one place, by whatever names. */
 void write_part(const char *path, const void *bytes, size_t length);
 
 /* What was printed has reached standard output. */
 void finish_printing(void);
 
-/* Gives every part its name. Until then no file that was there is touched; a program that gives up takes its parts away. */
+/* Gives every part its name, or, where one of them cannot have it, none: what stood at the others is put back. Until then no file
+ * that was there is touched; a program that gives up takes its parts away. (One that is killed leaves the folders of its parts.) */
 void keep_parts(void);
 
 #endif

@@ -2,7 +2,7 @@
 #ifndef GRID_H
 #define GRID_H
 
-#include "landovireph.h"
+#include "landovireph_table.h"
 
 #define FIELD 256
 #define BORDER 53

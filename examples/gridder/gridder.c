@@ -8,7 +8,7 @@
  * makes it. --unchecked leaves the check out, as was done before there was one. --to writes the table's image and its sums,
  * --picture the field as a PGM file.
  * Exit status: 0; 1 where the table was refused; 2 where an argument or a file is wrong. Nothing is written unless every sample was
- * summed, and then all files or none.
+ * summed, and then all files or none: none where the status is not 0.
  */
 #include "files.h"
 #include "grid.h"
@@ -26,9 +26,7 @@ const char *const program = "gridder";
 #define BATCH 4096
 
 struct gridder {
-    uint64_t n;
-    uint8_t state[LANDOVIREPH_STATE_BYTES], answer[LANDOVIREPH_ANSWER_BYTES];
-    uint8_t *words, *flags;
+    struct landovireph_table table;
     double *sums, *weights; /* by slot; the weights lie behind the sums */
 };
 
@@ -42,48 +40,38 @@ struct options {
 /* The smallest table whose maximum leaves a tenth free. Not every size has a layout: the next one that has is taken. */
 static void open_table(struct gridder *g, uint64_t cells)
 {
-    uint64_t refused = LANDOVIREPH_LAYOUT;
-    for (g->n = cells + cells * 3 / 10; refused == LANDOVIREPH_LAYOUT; g->n++) {
-        g->words = memory(g->n, 8);
-        g->flags = memory(g->n, 1);
-        refused = landovireph_funnel_open(g->n, RESERVE_EXPONENT, SEED, WORD_CAP, g->state, sizeof g->state, g->words, 8 * g->n,
-                                          g->flags, g->n, g->answer, sizeof g->answer);
-        if (refused == 0)
-            break;
-        free(g->words);
-        free(g->flags);
-    }
+    uint64_t n = cells + cells * 3 / 10, refused;
+    while (landovireph_table_exists(n, RESERVE_EXPONENT, WORD_CAP) == LANDOVIREPH_REFUSED_LAYOUT)
+        n++;
+    refused = landovireph_table_open(&g->table, n, RESERVE_EXPONENT, SEED, WORD_CAP, memory(n, 8), memory(n, 1));
     if (refused != 0)
         give_up(1, "no table could be opened", landovireph_refusal_name(refused));
-    g->sums = memory(2 * g->n, sizeof *g->sums);
-    g->weights = g->sums + g->n;
+    g->sums = memory(2 * n, sizeof *g->sums);
+    g->weights = g->sums + n;
 }
 
 static void close_table(struct gridder *g)
 {
-    free(g->words);
-    free(g->flags);
+    free(g->table.words);
+    free(g->table.flags);
     free(g->sums);
 }
-
-#define TABLE(g) (g)->state, sizeof (g)->state, (g)->words, 8 * (g)->n, (g)->flags, (g)->n
-#define ANSWER(g) (g)->answer, sizeof (g)->answer
 
 /* Ends the run unless some order of insertions makes the table that was handed over. */
 static void check_table(struct gridder *g)
 {
-    uint8_t *marks = memory(g->n, 1), *order = memory(g->n, 8);
-    uint64_t refused = landovireph_funnel_check(TABLE(g), marks, g->n, order, 8 * g->n, ANSWER(g));
-    uint64_t slot = landovireph_answer_slot(g->answer);
+    uint8_t *marks = memory(g->table.n, 1), *order = memory(g->table.n, 8);
+    uint64_t refused = landovireph_table_check(&g->table, marks, order);
+    uint64_t slot = landovireph_answer_slot(g->table.answer);
     free(marks);
     free(order);
     if (refused == 0)
         return;
     fprintf(stderr, "gridder: the table that was handed over is refused: %s (%" PRIu64 ")\n", landovireph_refusal_name(refused),
             refused);
-    if (refused == LANDOVIREPH_DISORDER)
+    if (refused == LANDOVIREPH_REFUSED_DISORDER)
         fprintf(stderr, "gridder: %" PRIu64 " of %" PRIu64 " members can be placed; slot %" PRIu64 " is the first that cannot\n",
-                landovireph_answer_placed(g->answer), landovireph_state_count(g->state), slot);
+                landovireph_answer_placed(g->table.answer), landovireph_state_count(g->table.state), slot);
     fprintf(stderr, "gridder: no sample was summed\n");
     exit(1);
 }
@@ -92,12 +80,12 @@ static void check_table(struct gridder *g)
 
 static void load_image(struct gridder *g, const char *path)
 {
-    struct bytes image = read_file(path, (size_t)landovireph_image_bytes(g->n, 64));
-    uint64_t refused = landovireph_funnel_load(TABLE(g), image.at, image.length, ANSWER(g));
+    struct bytes image = read_file(path, (size_t)landovireph_image_bytes(g->table.n, 64));
+    uint64_t refused = landovireph_table_load(&g->table, image.at, image.length);
     free(image.at);
-    if (refused == LANDOVIREPH_IMAGE)
+    if (refused == LANDOVIREPH_REFUSED_IMAGE)
         fprintf(stderr, "gridder: %s is no image: it is malformed at byte %" PRIu64 "\n", path,
-                landovireph_get(g->answer, LANDOVIREPH_ANSWER_BYTE));
+                landovireph_answer_byte(g->table.answer));
     if (refused != 0)
         give_up(1, path, landovireph_refusal_name(refused));
 }
@@ -105,18 +93,18 @@ static void load_image(struct gridder *g, const char *path)
 static void write_image(struct gridder *g, const char *path)
 {
     static const uint8_t label[] = { 'g', 'r', 'i', 'd', 'd', 'e', 'r' };
-    size_t room = (size_t)landovireph_image_bytes(landovireph_state_count(g->state), sizeof label);
+    size_t room = (size_t)landovireph_image_bytes(landovireph_state_count(g->table.state), sizeof label);
     uint8_t *image = memory(room, 1);
-    uint64_t refused = landovireph_funnel_write(TABLE(g), label, sizeof label, image, room, ANSWER(g));
+    uint64_t refused = landovireph_table_write(&g->table, label, sizeof label, image, room);
     if (refused != 0)
         give_up(1, "the table cannot be written", landovireph_refusal_name(refused));
-    write_part(path, image, (size_t)landovireph_get(g->answer, LANDOVIREPH_ANSWER_IMAGE_BYTES));
+    write_part(path, image, (size_t)landovireph_answer_image_bytes(g->table.answer));
     free(image);
 }
 
 static size_t sums_bytes(const struct gridder *g)
 {
-    return 2 * (size_t)g->n * sizeof *g->sums;
+    return 2 * (size_t)g->table.n * sizeof *g->sums;
 }
 
 static void load_sums(struct gridder *g, const char *path)
@@ -153,7 +141,7 @@ static void grid_batch(struct gridder *g, const uint8_t *records, size_t count)
     size_t k;
     for (k = 0; k < count; k++)
         memcpy(identities + 8 * k, records + SAMPLE_BYTES * k, 8);
-    refused = landovireph_funnel_place_all(TABLE(g), identities, 8 * count, slots, 8 * count, ANSWER(g));
+    refused = landovireph_table_place_all(&g->table, identities, slots, count);
     if (refused != 0)
         give_up(1, "a cell has no slot", landovireph_refusal_name(refused));
     for (k = 0; k < count; k++) {
@@ -200,9 +188,9 @@ static uint64_t grid_samples(struct gridder *g, const char *path)
 static double mean_of(struct gridder *g, uint64_t identity)
 {
     uint64_t slot;
-    if (landovireph_funnel_search(TABLE(g), identity, ANSWER(g)) != 0 || !landovireph_answer_found(g->answer))
+    if (landovireph_table_search(&g->table, identity) != 0 || !landovireph_answer_found(g->table.answer))
         return 0.0;
-    slot = landovireph_answer_slot(g->answer);
+    slot = landovireph_answer_slot(g->table.answer);
     return g->weights[slot] > 0.0 ? g->sums[slot] / g->weights[slot] : 0.0;
 }
 
@@ -273,7 +261,7 @@ int main(int count, char **words)
             check_table(&g);
         load_sums(&g, options.from_sums);
     }
-    before = landovireph_state_count(g.state);
+    before = landovireph_state_count(g.table.state);
     samples = grid_samples(&g, options.samples);
     if (options.to_image != NULL) {
         write_image(&g, options.to_image);
@@ -281,10 +269,10 @@ int main(int count, char **words)
     }
     if (options.picture != NULL)
         write_picture(&g, options.picture);
-    keep_parts();
     printf("%" PRIu64 " samples; %" PRIu64 " cells entered, %" PRIu64 " in all, in a table of %" PRIu64 " slots\n", samples,
-           landovireph_state_count(g.state) - before, landovireph_state_count(g.state), g.n);
+           landovireph_state_count(g.table.state) - before, landovireph_state_count(g.table.state), g.table.n);
     finish_printing();
+    keep_parts();
     close_table(&g);
     return 0;
 }
