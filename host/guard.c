@@ -811,7 +811,7 @@ static bool can_take(uint64_t n, uint32_t e, uint64_t members)
 
 static void try_smallest(void)
 {
-    static const struct may may[] = { { 0, SMALLEST_SAYS }, { LANDOVIREPH_NONE, 0 }, { -1, 0 } };
+    static const struct may may[] = { { 0, SMALLEST_SAYS }, { LANDOVIREPH_REFUSED_NONE, 0 }, { -1, 0 } };
     uint64_t members = one_in(3) ? 0 : draw() >> below(64), first = one_in(6) ? strange_n() : draw() >> (32 + below(32));
     uint64_t last = one_in(6) ? strange_n() : first + (draw() >> (32 + below(32))), n, result;
     uint32_t e = one_in(2) ? 3 + (uint32_t)below(26) : strange_e();

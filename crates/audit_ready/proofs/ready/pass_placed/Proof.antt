@@ -4,8 +4,8 @@ use mathlib.Core.Path.{subst}
 use native.Mathlib.Omega.{arith}
 use borrow.Author.Needs.{needs}
 use Rattle.lent.specs.Lent.{wordsIn}
-use Rattle.geometry.specs.FunnelLaws.{plan-facts}
-use Rattle.funnel.specs.PlanLaws.{valid-drawable, level-room}
+use Rattle.geometry.specs.FunnelLaws.{plan-facts, count-some}
+use Rattle.funnel.specs.PlanLaws.{level-room}
 use Rattle.funnel.specs.Stop.{StopsAt, BucketStops}
 use Rattle.funnel.specs.StopLaws.{LevelsPassed, passed-none, passed-room, passed-stops, passed-more}
 use Rattle.audit_ready.proofs.ready.pass_placed.Statement.{statement}
@@ -21,7 +21,7 @@ funnel-key-requires : tie.Need-funnel-key-requires Inv-loop μ-loop
 funnel-key-requires c κs = search needs
 
 first-bucket-requires : tie.Need-first-bucket-requires Inv-loop μ-loop
-first-bucket-requires c κs = let d = valid-drawable (c .before .before .before .before .pre) in (d .few, d .some)
+first-bucket-requires c κs = (plan-facts (c .before .before .before .before .pre .planned) .alpha-most, count-some (c .before .before .before .before .pre .planned))
 
 loop-holds : tie.Need-loop-holds Inv-loop μ-loop
 loop-holds c = passed-none _ _ _ _ _ _ _ (c .first-bucket .ensures)
@@ -40,7 +40,7 @@ add-first-bucket : tie.Need-add-first-bucket Inv-loop μ-loop
 add-first-bucket c = let f = plan-facts (c .before .before .before .before .before .before .before .before .before .pre .planned) in let l = c .before .before .loop-test .taken in omega arith
 
 first-bucket-requires-2 : tie.Need-first-bucket-requires-2 Inv-loop μ-loop
-first-bucket-requires-2 c κs = let d = valid-drawable (c .before .before .before .before .before .before .before .before .before .pre) in (d .few, d .some)
+first-bucket-requires-2 c κs = (plan-facts (c .before .before .before .before .before .before .before .before .before .pre .planned) .alpha-most, count-some (c .before .before .before .before .before .before .before .before .before .pre .planned))
 
 mul-from : tie.Need-mul-from Inv-loop μ-loop
 mul-from c = let v = c .before .before .before .before .before .before .before .before .before .before .pre in

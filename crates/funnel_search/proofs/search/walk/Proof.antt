@@ -3,8 +3,8 @@ use Prim.Native.Nat.{_-_}
 use native.Mathlib.Omega.{arith}
 use borrow.Author.Needs.{needs}
 use Rattle.lent.specs.Lent.{wordsIn}
-use Rattle.geometry.specs.FunnelLaws.{plan-facts}
-use Rattle.funnel.specs.PlanLaws.{valid-drawable, level-room}
+use Rattle.geometry.specs.FunnelLaws.{plan-facts, count-some}
+use Rattle.funnel.specs.PlanLaws.{level-room}
 use Rattle.funnel.specs.Stop.{WalksTo}
 use Rattle.funnel.specs.StopLaws.{LevelsPassed, passed-none, passed-room, passed-more, halts-nowhere, walks-hit, walks-vacant, walks-past}
 use Rattle.funnel_search.proofs.search.walk.Statement.{statement}
@@ -17,7 +17,7 @@ abbrev μ-loop : tie.MeasureT-loop
 μ-loop table counts words flags identity key lent bytes alpha beta level₀ start₀ bucket₀ level start bucket = alpha - level
 
 first-bucket-requires : tie.Need-first-bucket-requires Inv-loop μ-loop
-first-bucket-requires c κs = let d = valid-drawable (c .before .before .before .pre .0) in (d .few, d .some)
+first-bucket-requires c κs = (plan-facts (c .before .before .before .pre .0 .planned) .alpha-most, count-some (c .before .before .before .pre .0 .planned))
 
 loop-holds : tie.Need-loop-holds Inv-loop μ-loop
 loop-holds c = passed-none _ _ _ _ _ _ _ (c .first-bucket .ensures)
@@ -36,7 +36,7 @@ add-first-bucket : tie.Need-add-first-bucket Inv-loop μ-loop
 add-first-bucket c = let f = plan-facts (c .before .before .before .before .before .before .before .before .pre .0 .planned) in let l = c .before .before .loop-test .taken in omega arith
 
 first-bucket-requires-2 : tie.Need-first-bucket-requires-2 Inv-loop μ-loop
-first-bucket-requires-2 c κs = let d = valid-drawable (c .before .before .before .before .before .before .before .before .pre .0) in (d .few, d .some)
+first-bucket-requires-2 c κs = (plan-facts (c .before .before .before .before .before .before .before .before .pre .0 .planned) .alpha-most, count-some (c .before .before .before .before .before .before .before .before .pre .0 .planned))
 
 mul-from : tie.Need-mul-from Inv-loop μ-loop
 mul-from c = let v = c .before .before .before .before .before .before .before .before .before .pre .0 in
