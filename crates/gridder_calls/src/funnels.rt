@@ -22,6 +22,7 @@ use gridder_answer::answer::say_search;
 use gridder_answer::gate::block_gate;
 use gridder_state::state::write_count;
 
+// Where an identity is, or the vacancy where it would be put: said in the answer block, with the number of a refusal.
 pub fn search_in(state: &[u8], words: &[u8], flags: &[u8], identity: u64, answer: &mut [u8]) -> u64
     requires { ⌜ holdsFunnel (now state) ≡ true ⌝ }
     ensures { λ r. ⌜ reply r (now (answer .exit)) ≡ searchCall (now (state .entry)) (now (words .entry)) (now (flags .entry)) identity (now (answer .entry)) ⌝ }
@@ -56,6 +57,7 @@ pub fn call_gate(
     )
 }
 
+// The insertion of an identity. The count in the block is stepped only where it was inserted.
 pub fn insert_in(
     state: &mut [u8],
     words: &mut [u8],

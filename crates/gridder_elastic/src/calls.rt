@@ -31,6 +31,7 @@ use gridder_state::state::STATE_LENGTH;
 use words::clear::clear_bytes;
 use words::power::ceil_log2;
 
+// Where an identity is: said in the answer block, with the number of a refusal.
 pub fn query_in(state: &[u8], words: &[u8], flags: &[u8], identity: u64, answer: &mut [u8]) -> u64
     requires { ⌜ holdsElastic (now state) ≡ true ⌝ }
     ensures { λ r. ⌜ reply r (now (answer .exit)) ≡ queryCall (now (state .entry)) (now (words .entry)) (now (flags .entry)) identity (now (answer .entry)) ⌝ }
@@ -48,6 +49,7 @@ pub fn query_in(state: &[u8], words: &[u8], flags: &[u8], identity: u64, answer:
     }
 }
 
+// The insertion of an identity. The counts in the block are stepped only where it was inserted.
 pub fn insert_in(
     state: &mut [u8],
     words: &mut [u8],
@@ -121,6 +123,7 @@ pub fn fresh(n: u64, e: u32, seed: u64, limits: Limits) -> State
     }
 }
 
+// A fresh table into its block: words, flags and answer are zeroed.
 pub fn open_in(
     st: State,
     state: &mut [u8],

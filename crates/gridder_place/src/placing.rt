@@ -12,6 +12,7 @@ use gridder_calls::enter::enter;
 use gridder_state::state::write_count;
 use refusal::Gate;
 
+// The slot of each identity, where it is or was put, up to the first refusal. The count is written also then, since those before it are placed.
 pub fn place_in(
     state: &mut [u8],
     words: &mut [u8],
