@@ -6,6 +6,9 @@
 //     ?                                                      for any other line
 //
 // It holds one line at a time, so input of any length works.
+ghost use mathlib.Core.Path.{_≡_};
+ghost use Rattle.words.specs.Pick.{pick};
+ghost use Rattle.text.specs.Line.{Leaves};
 use geometry::elastic::ElasticPlanned;
 use geometry::elastic::elastic_plan;
 use geometry::funnel::FunnelPlanned;
@@ -67,8 +70,10 @@ fn finish(line: &[u8], out: &mut [u8], now: Progress) {
     flush(out, now.at);
 }
 
-// Takes a part of the input, and answers each line that ends in it.
-fn take(part: &[u8], line: &mut [u8], out: &mut [u8], before: Progress) -> Progress {
+// Takes a part of the input, and answers each line that ends in it. What is held of the last line stays for the next part.
+fn take(part: &[u8], line: &mut [u8], out: &mut [u8], before: Progress) -> Progress
+    ensures { λ r. ⌜ Leaves (now (part .entry)) (now (line .entry)) (before .length) (now (line .exit)) (r .length) ⌝ }
+{
     let mut now = before;
     let mut from = 0;
     while from < part.len() {
@@ -80,7 +85,9 @@ fn take(part: &[u8], line: &mut [u8], out: &mut [u8], before: Progress) -> Progr
 }
 
 // Answers a line that ended.
-fn settle(line: &[u8], out: &mut [u8], got: Gathered, at: usize) -> Progress {
+fn settle(line: &[u8], out: &mut [u8], got: Gathered, at: usize) -> Progress
+    ensures { λ r. ⌜ r .length ≡ pick (got .ended) 0 (got .length) ⌝ }
+{
     if got.ended {
         return Progress {
             length: 0,

@@ -4,6 +4,9 @@
 // A line that is no command prints `?`. A line longer than 524,288 bytes, or a table of more than 65,536 slots, is more
 // than this program holds, and prints `L`.
 
+ghost use mathlib.Core.Path.{_≡_};
+ghost use Rattle.words.specs.Pick.{pick};
+ghost use Rattle.text.specs.Line.{Leaves};
 use script::word::Word;
 use script::word::key_of;
 use script::word::word_of;
@@ -56,8 +59,10 @@ fn finish(line: &[u8], out: &mut [u8], now: Progress) {
     flush(out, now.at);
 }
 
-// Takes a part of the input, and answers each line that ends in it.
-fn take(part: &[u8], line: &mut [u8], out: &mut [u8], before: Progress) -> Progress {
+// Takes a part of the input, and answers each line that ends in it. What is held of the last line stays for the next part.
+fn take(part: &[u8], line: &mut [u8], out: &mut [u8], before: Progress) -> Progress
+    ensures { λ r. ⌜ Leaves (now (part .entry)) (now (line .entry)) (before .length) (now (line .exit)) (r .length) ⌝ }
+{
     let mut now = before;
     let mut from = 0;
     while from < part.len() {
@@ -69,7 +74,9 @@ fn take(part: &[u8], line: &mut [u8], out: &mut [u8], before: Progress) -> Progr
 }
 
 // Answers a line that ended.
-fn settle(line: &[u8], out: &mut [u8], got: Gathered, at: usize) -> Progress {
+fn settle(line: &[u8], out: &mut [u8], got: Gathered, at: usize) -> Progress
+    ensures { λ r. ⌜ r .length ≡ pick (got .ended) 0 (got .length) ⌝ }
+{
     if got.ended {
         return Progress {
             length: 0,
