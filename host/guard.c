@@ -857,7 +857,7 @@ static void try_open(void)
 static bool can_take(uint64_t n, uint32_t e, uint64_t members)
 {
     uint8_t state[LANDOVIREPH_STATE_BYTES], answer[LANDOVIREPH_ANSWER_BYTES], none[2];
-    return landovireph_funnel_open(n, e, 0, 1, state, sizeof state, none, 0, none + 1, 0, answer, sizeof answer) == LANDOVIREPH_STATE &&
+    return landovireph_funnel_open(n, e, 0, 1, state, sizeof state, none, 0, none + 1, 0, answer, sizeof answer) == LANDOVIREPH_REFUSED_STATE &&
            n - (e < 64 ? n >> e : 0) >= members;
 }
 
@@ -873,7 +873,7 @@ static void try_smallest(void)
     count(result);
     keeps_answers(result, may, false);
     keeps_table();
-    if (result == LANDOVIREPH_NONE)
+    if (result == LANDOVIREPH_REFUSED_NONE)
         must(last < first || !can_take(last, e, members), "the last n of the range takes the members");
     if (result != 0)
         return;
