@@ -211,7 +211,27 @@ static void choose(struct table *t, bool elastic)
     t->position_cap = 1 + below(one_in(4) ? 100 : 100000);
 }
 
-/* Tables of sizes that have a layout: empty ones, some that are half full, some that are full. */
+/* A table whose first levels alone have more than one bucket, and whose members all take the first of them: they fill one path up to
+ * and into the special part, which random members hardly ever reach. */
+static void fill_one_path(struct table *t)
+{
+    uint8_t answer[LANDOVIREPH_ANSWER_BYTES];
+    uint64_t tries, members = 100 + below(45);
+    t->n = 168;
+    t->e = 3;
+    if (reopen(t) != 0)
+        fail("a table of 168 slots cannot be opened");
+    for (tries = 0; tries < 5000 && landovireph_state_count(t->state) < members; tries++) {
+        uint64_t identity = member();
+        if (landovireph_funnel_search(t->state, sizeof t->state, t->words, 8 * t->n, t->flags, t->n, identity, answer, sizeof answer) != 0 ||
+            (landovireph_answer_kind(answer) == LANDOVIREPH_ORDINARY && landovireph_answer_bucket(answer) != 0))
+            continue;
+        landovireph_funnel_insert(t->state, sizeof t->state, t->words, 8 * t->n, t->flags, t->n, identity, answer, sizeof answer);
+    }
+}
+
+/* Tables of sizes that have a layout: empty ones, some that are half full, some that are full; of the funnel's every other one is of
+ * one path. */
 static void make_pool(struct table *tables, bool elastic)
 {
     int made = 0;
@@ -219,7 +239,10 @@ static void make_pool(struct table *tables, bool elastic)
         choose(&tables[made], elastic);
         if (reopen(&tables[made]) != 0)
             continue;
-        fill(&tables[made], (uint64_t)(made % 3) * tables[made].n);
+        if (!elastic && made % 2 == 1)
+            fill_one_path(&tables[made]);
+        else
+            fill(&tables[made], (uint64_t)(made / 2 % 3) * tables[made].n);
         made++;
     }
 }
@@ -303,16 +326,47 @@ static void damage_state(void)
     settle(STATE);
 }
 
+static void swap_flags(uint64_t a, uint64_t b)
+{
+    uint8_t flag = arenas[FLAGS].at[a];
+    arenas[FLAGS].at[a] = arenas[FLAGS].at[b];
+    arenas[FLAGS].at[b] = flag;
+}
+
+/* Every slot before the special part, or before the fallback buckets, holds something: so a search goes on to what is behind. */
+static void cram(void)
+{
+    uint64_t slot, taken = table->n - landovireph_get(table->state, LANDOVIREPH_STATE_SPECIAL);
+    if (table->elastic)
+        return;
+    if (one_in(2))
+        taken += landovireph_get(table->state, LANDOVIREPH_STATE_PRIMARY);
+    for (slot = 0; slot < taken; slot++) {
+        landovireph_put(arenas[WORDS].at, 8 * slot, draw());
+        arenas[FLAGS].at[slot] = 1;
+    }
+}
+
 /* Members moved, doubled, taken out; flags that are no flags. */
 static void damage_slots(void)
 {
-    uint64_t from = below(table->n), to = below(table->n);
+    uint64_t from = below(table->n), to = below(table->n), word;
     if (arenas[WORDS].length < 8 * table->n || arenas[FLAGS].length < table->n)
         return;
-    switch (below(5)) {
+    switch (below(8)) {
     case 0:
         landovireph_put(arenas[WORDS].at, 8 * from, 0);
         arenas[FLAGS].at[from] = 0;
+        break;
+    case 4: /* two members exchanged, or one moved */
+        word = word_now(WORDS, from);
+        landovireph_put(arenas[WORDS].at, 8 * from, word_now(WORDS, to));
+        landovireph_put(arenas[WORDS].at, 8 * to, word);
+        swap_flags(from, to);
+        break;
+    case 5:
+    case 6:
+        cram();
         break;
     case 1:
         landovireph_put(arenas[WORDS].at, 8 * to, word_now(WORDS, from));
@@ -803,7 +857,7 @@ static void try_open(void)
 static bool can_take(uint64_t n, uint32_t e, uint64_t members)
 {
     uint8_t state[LANDOVIREPH_STATE_BYTES], answer[LANDOVIREPH_ANSWER_BYTES], none[2];
-    return landovireph_funnel_open(n, e, 0, 1, state, sizeof state, none, 0, none + 1, 0, answer, sizeof answer) == LANDOVIREPH_STATE &&
+    return landovireph_funnel_open(n, e, 0, 1, state, sizeof state, none, 0, none + 1, 0, answer, sizeof answer) == LANDOVIREPH_REFUSED_STATE &&
            n - (e < 64 ? n >> e : 0) >= members;
 }
 
@@ -819,7 +873,7 @@ static void try_smallest(void)
     count(result);
     keeps_answers(result, may, false);
     keeps_table();
-    if (result == LANDOVIREPH_NONE)
+    if (result == LANDOVIREPH_REFUSED_NONE)
         must(last < first || !can_take(last, e, members), "the last n of the range takes the members");
     if (result != 0)
         return;

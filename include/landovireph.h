@@ -41,7 +41,7 @@
  * Refusals
  *
  * 1 to 7 are tested first, in the order of their numbers; then a call's own, in the order that is given with it. A refusal leaves
- * the state block and all buffers as they were; LANDOVIREPH_DISORDER alone writes marks and order, and a stopped
+ * the state block and all buffers as they were; DISORDER alone writes marks and order, and a stopped
  * landovireph_funnel_place_all has placed what came before.
  *
  * STATE is also a block of another length, and (open aside) a state block that holds no table of the kind that the call is for, or
