@@ -1,24 +1,35 @@
 /*
- * sources: how plainly each known source stands in two pictures of the field.
+ * sources: how plainly each known source stands in two pictures of the field, and what else looks like one.
  *
  *     sources HONEST.pgm OTHER.pgm
  *
- * A source's height is fitted over the cells around it, and held against the picture's noise, which is taken from the median
- * of all cells. A source counts as found at 5 times the noise of that fit or more.
+ * A source's height is fitted over the cells around a place, and held against the picture's noise. The noise is estimated in two ways, from
+ * the median distance from 0 of all cells and as the root mean square of the cells away from sources: where part of the cells are far
+ * noisier than the rest, as in a picture whose cells lost their weight, the median sees the quiet part alone. At 5 times the noise of the fit
+ * or more something counts as found; away from the known sources it is a false one, counted where no place around it stands out more. The
+ * pictures are cut at their black and white, so that the largest errors look smaller than they are.
  * Exit status: 0; 2 where an argument or a picture is wrong, or writing fails.
  */
 #include "grid.h"
 
 #include <math.h>
+#include <stdbool.h>
 #include <stdio.h>
 #include <stdlib.h>
 
 #define AROUND 4 /* cells on each side that the fit takes in */
 #define FOUND_AT 5.0
 
+enum estimate { BY_MEDIAN, BY_SQUARES, ESTIMATES };
+
 struct picture {
     double cells[FIELD][FIELD];
-    double noise;
+    double noise[ESTIMATES];
+};
+
+/* What is found in a picture by one estimate of its noise. */
+struct found {
+    int bright, faint, other;
 };
 
 static void read_picture(const char *path, struct picture *picture)
@@ -48,21 +59,46 @@ static int by_size(const void *a, const void *b)
     return (x > y) - (x < y);
 }
 
+/* Whether a place of the field is away from every source. */
+static bool is_away(int x, int y)
+{
+    int i;
+    for (i = 0; i < SOURCES; i++) {
+        struct source source = source_number(i);
+        if (fabs(source.x - BORDER - x) <= 2 * AROUND && fabs(source.y - BORDER - y) <= 2 * AROUND)
+            return false;
+    }
+    return true;
+}
+
 /* The median distance from 0, scaled to the deviation that normal noise of that median has. */
-static void measure_noise(struct picture *picture)
+static double noise_by_median(const struct picture *picture)
 {
     static double all[FIELD * FIELD];
     int i;
     for (i = 0; i < FIELD * FIELD; i++)
         all[i] = fabs(picture->cells[i / FIELD][i % FIELD]);
     qsort(all, FIELD * FIELD, sizeof all[0], by_size);
-    picture->noise = 1.4826 * all[FIELD * FIELD / 2];
+    return 1.4826 * all[FIELD * FIELD / 2];
 }
 
-/* The source's fitted height over the noise of the fit. */
-static double plainness(const struct picture *picture, struct source source)
+static double noise_by_squares(const struct picture *picture)
 {
-    int cx = (int)source.x - BORDER, cy = (int)source.y - BORDER, dx, dy;
+    double squares = 0.0, cells = 0.0;
+    int x, y;
+    for (y = 0; y < FIELD; y++)
+        for (x = 0; x < FIELD; x++)
+            if (is_away(x, y)) {
+                squares += picture->cells[y][x] * picture->cells[y][x];
+                cells += 1.0;
+            }
+    return sqrt(squares / cells);
+}
+
+/* The height fitted at a place, in units of what noise of 1 in each cell gives. */
+static double fitted(const struct picture *picture, int cx, int cy)
+{
+    int dx, dy;
     double with = 0.0, square = 0.0;
     for (dy = -AROUND; dy <= AROUND; dy++)
         for (dx = -AROUND; dx <= AROUND; dx++) {
@@ -70,29 +106,71 @@ static double plainness(const struct picture *picture, struct source source)
             with += shape * picture->cells[cy + dy][cx + dx];
             square += shape * shape;
         }
-    return with / sqrt(square) / picture->noise;
+    return with / sqrt(square);
+}
+
+/* How many places away from the sources stand out so far, and not less than any place around them. */
+static int count_false(double (*heights)[FIELD], double least)
+{
+    int x, y, dx, dy, count = 0;
+    for (y = 2 * AROUND; y < FIELD - 2 * AROUND; y++)
+        for (x = 2 * AROUND; x < FIELD - 2 * AROUND; x++) {
+            bool top = heights[y][x] >= least && is_away(x, y);
+            for (dy = -AROUND; top && dy <= AROUND; dy++)
+                for (dx = -AROUND; top && dx <= AROUND; dx++)
+                    top = heights[y][x] >= heights[y + dy][x + dx];
+            count += top;
+        }
+    return count;
+}
+
+static void look(struct picture *picture, struct found found[ESTIMATES])
+{
+    static double heights[FIELD][FIELD];
+    int x, y, i, k;
+    picture->noise[BY_MEDIAN] = noise_by_median(picture);
+    picture->noise[BY_SQUARES] = noise_by_squares(picture);
+    for (y = AROUND; y < FIELD - AROUND; y++)
+        for (x = AROUND; x < FIELD - AROUND; x++)
+            heights[y][x] = fitted(picture, x, y);
+    for (k = 0; k < ESTIMATES; k++) {
+        double least = FOUND_AT * picture->noise[k];
+        found[k] = (struct found){ 0, 0, count_false(heights, least) };
+        for (i = 0; i < SOURCES; i++) {
+            struct source source = source_number(i);
+            int stands = heights[(int)source.y - BORDER][(int)source.x - BORDER] >= least;
+            if (i < BRIGHT)
+                found[k].bright += stands;
+            else
+                found[k].faint += stands;
+        }
+    }
+}
+
+static void print_found(const char *estimate, const struct picture *honest, const struct picture *other, const struct found *a,
+                        const struct found *b, int k)
+{
+    printf("noise, %-12s %6.2f  %6.2f\n", estimate, honest->noise[k], other->noise[k]);
+    printf("  bright sources   %3d/%d    %3d/%d\n", a[k].bright, BRIGHT, b[k].bright, BRIGHT);
+    printf("  faint sources   %3d/%d   %3d/%d\n", a[k].faint, FAINT, b[k].faint, FAINT);
+    printf("  false ones      %6d  %6d\n", a[k].other, b[k].other);
 }
 
 int main(int count, char **words)
 {
     static struct picture honest, other;
-    int i, found[2][2] = { { 0, 0 }, { 0, 0 } };
+    struct found in_honest[ESTIMATES], in_other[ESTIMATES];
     if (count != 3) {
         fprintf(stderr, "usage: sources HONEST.pgm OTHER.pgm\n");
         return 2;
     }
     read_picture(words[1], &honest);
     read_picture(words[2], &other);
-    measure_noise(&honest);
-    measure_noise(&other);
-    for (i = 0; i < SOURCES; i++) {
-        found[i >= BRIGHT][0] += plainness(&honest, source_number(i)) >= FOUND_AT;
-        found[i >= BRIGHT][1] += plainness(&other, source_number(i)) >= FOUND_AT;
-    }
-    printf("                  honest   other\n");
-    printf("noise of a cell   %6.2f  %6.2f\n", honest.noise, other.noise);
-    printf("bright sources    %3d/%d    %3d/%d\n", found[0][0], BRIGHT, found[0][1], BRIGHT);
-    printf("faint sources    %3d/%d   %3d/%d\n", found[1][0], FAINT, found[1][1], FAINT);
+    look(&honest, in_honest);
+    look(&other, in_other);
+    printf("                    honest   other\n");
+    print_found("median", &honest, &other, in_honest, in_other, BY_MEDIAN);
+    print_found("rms", &honest, &other, in_honest, in_other, BY_SQUARES);
     if (fflush(stdout) != 0 || ferror(stdout)) {
         perror("sources");
         return 2;
