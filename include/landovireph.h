@@ -57,7 +57,7 @@
  *               answers stay. A source that compiles with this header compiles with later ones of the same major version.
  *     blocks    The words that have a name here keep their offsets and meanings. The others are the library's own: save a table as
  *               an image, not as its state block, where another version may read it.
- *     images    Every later version reads the images of this one, and writes the same bytes for the same table by the same call.
+ *     images    Every later version reads the images of this one. What it writes may have further fields, which this one refuses.
  *
  * Building the library from nothing (`make`) proves the crates that it is made of, which takes some eight minutes on two cores.
  */
