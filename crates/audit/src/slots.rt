@@ -7,7 +7,7 @@ ghost use Rattle.lent.specs.Lent.{words_in};
 use lent::store::word;
 
 // The smallest slot with a property, where there is one.
-#[derive(Drop)]
+#[derive(Clone, Copy)]
 pub enum First {
     At { slot: u64 },
     Nothing,

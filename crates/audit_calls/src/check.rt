@@ -13,7 +13,7 @@ use refusal::Gate;
 
 // What the check answers: every member placed; stuck, with the number placed and the smallest occupied slot that is not;
 // the smallest dirty slot; or a refusal of the gate.
-#[derive(Drop)]
+#[derive(Clone, Copy)]
 pub enum Checked {
     Accepted { placed: u64 },
     Disorder { placed: u64, slot: u64 },

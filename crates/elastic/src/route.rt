@@ -10,14 +10,14 @@ use refusal::RangeRefusal;
 use words::place::LogicalProbe;
 
 // What a probe reads: a slot of the table, with the words that its draw took; or that all its words were rejected.
-#[derive(Drop)]
+#[derive(Clone, Copy)]
 pub enum Reading {
     Slot { slot: u64, words: u64 },
     Refused(RangeRefusal),
 }
 
 // Where a search ends: at a vacant slot and the probe that read it, past its last probe, or refused.
-#[derive(Drop)]
+#[derive(Clone, Copy)]
 pub enum Sought {
     Vacant { slot: u64, probe: LogicalProbe },
     Passed,
@@ -25,7 +25,7 @@ pub enum Sought {
 }
 
 // Where an identity is.
-#[derive(Drop)]
+#[derive(Clone, Copy)]
 pub enum Located {
     At(u64),
     Nowhere,

@@ -10,7 +10,7 @@ use words::clear::{clear_bytes, clear_words};
 use words::power::ceil_log2;
 
 // The caps of a table and c, the factor of its budgets: the Rust's `ScalarElasticLimits`.
-#[derive(Drop)]
+#[derive(Clone, Copy)]
 pub struct Limits {
     pub probe_budget_c: u64,
     pub range_word_cap: u64,
@@ -19,7 +19,7 @@ pub struct Limits {
 }
 
 // What a table is, besides its level counts and its buffers.
-#[derive(Drop)]
+#[derive(Clone, Copy)]
 pub struct State {
     pub n: u64,
     pub e: u32,
@@ -29,7 +29,7 @@ pub struct State {
     pub count: u64,
 }
 
-#[derive(Drop)]
+#[derive(Clone, Copy)]
 pub enum Opened {
     Open(State),
     Refused(Gate),

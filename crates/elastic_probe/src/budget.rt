@@ -6,7 +6,7 @@ use words::power::ceil_log2;
 use words::product::{multiply, multiply_high};
 
 // The number of probes, or the reason that there is none.
-#[derive(Drop)]
+#[derive(Clone, Copy)]
 pub enum Budgeted {
     Probes(u64),
     Budget { reason: u64 },

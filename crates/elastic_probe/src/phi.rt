@@ -11,14 +11,14 @@ use words::power::bit_length;
 use words::product::Wide;
 
 // The coordinate that was zero.
-#[derive(Drop)]
+#[derive(Clone, Copy)]
 pub enum Coordinate {
     I,
     J,
 }
 
 // A position of two words, or why there is none.
-#[derive(Drop)]
+#[derive(Clone, Copy)]
 pub enum Position {
     At(Wide),
     Coord(Coordinate),
@@ -26,7 +26,7 @@ pub enum Position {
 }
 
 // A position of one word, or why there is none.
-#[derive(Drop)]
+#[derive(Clone, Copy)]
 pub enum Bounded {
     At(u64),
     Coord(Coordinate),
@@ -34,7 +34,7 @@ pub enum Bounded {
 }
 
 // The coordinates of a position, if it has any.
-#[derive(Drop)]
+#[derive(Clone, Copy)]
 pub enum Coordinates {
     At { i: Wide, j: u64 },
     Gap,

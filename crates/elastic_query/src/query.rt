@@ -19,7 +19,7 @@ use refusal::{Gate, RangeRefusal};
 use words::place::{GlobalSlot, LogicalProbe};
 
 // Where an identity was found, and what the walk to it counted: the Rust's `ScalarElasticQuery`.
-#[derive(Drop)]
+#[derive(Clone, Copy)]
 pub struct Finding {
     pub position: u64,
     pub global_slot: GlobalSlot,
@@ -28,7 +28,7 @@ pub struct Finding {
     pub words: u64,
 }
 
-#[derive(Drop)]
+#[derive(Clone, Copy)]
 pub enum QueryAnswer {
     Found(Finding),
     Range(RangeRefusal),
@@ -37,7 +37,7 @@ pub enum QueryAnswer {
 }
 
 // The numbers that every step of a query uses.
-#[derive(Drop)]
+#[derive(Clone, Copy)]
 pub struct Lookup {
     pub id: u64,
     pub key: u64,
@@ -48,7 +48,7 @@ pub struct Lookup {
 }
 
 // A node of the tree of positions.
-#[derive(Drop)]
+#[derive(Clone, Copy)]
 pub struct Stretch {
     pub b: u64,
     pub j: u64,
@@ -56,7 +56,7 @@ pub struct Stretch {
 }
 
 // What a position or the positions of a node say: the answer of the walk, or on with the counts.
-#[derive(Drop)]
+#[derive(Clone, Copy)]
 pub enum Scan {
     Ends(QueryAnswer),
     On { mapped: u64, words: u64 },

@@ -4,7 +4,7 @@ use refusal::{Gate, RangeRefusal};
 use words::place::{GlobalSlot, LevelSlot, LogicalProbe, PaperProbe};
 
 // Which rule placed an identity, with the levels, free slots and budget that it saw: the Rust's `ElasticCase`.
-#[derive(Drop)]
+#[derive(Clone, Copy)]
 pub enum Case {
     Batch0 {
         level: u64,
@@ -34,7 +34,7 @@ pub enum Case {
 }
 
 // A slot of a level: the Rust's `ScalarElasticLocation`.
-#[derive(Drop)]
+#[derive(Clone, Copy)]
 pub struct Location {
     pub level: u64,
     pub slot_in_level: LevelSlot,
@@ -42,7 +42,7 @@ pub struct Location {
 }
 
 // How an identity went in: the Rust's `ScalarElasticInsertion`.
-#[derive(Drop)]
+#[derive(Clone, Copy)]
 pub struct Insertion {
     pub case: Case,
     pub location: Location,
@@ -51,7 +51,7 @@ pub struct Insertion {
 }
 
 // The refusals of an insertion.
-#[derive(Drop)]
+#[derive(Clone, Copy)]
 pub enum InsertRefusal {
     Gate(Gate),
     Duplicate(GlobalSlot),
@@ -62,21 +62,21 @@ pub enum InsertRefusal {
     Position,
 }
 
-#[derive(Drop)]
+#[derive(Clone, Copy)]
 pub enum InsertAnswer {
     Inserted(Insertion),
     Refused(InsertRefusal),
 }
 
 // The answer, and the state after it.
-#[derive(Drop)]
+#[derive(Clone, Copy)]
 pub struct Inserted {
     pub answer: InsertAnswer,
     pub st: State,
 }
 
 // The slot that the steps choose, before its position is held against the cap.
-#[derive(Drop)]
+#[derive(Clone, Copy)]
 pub enum Chosen {
     Slot {
         case: Case,

@@ -100,7 +100,7 @@ fn pair(st: State, key: u64, counts: &[u64; 32], flags: &[u8], current: u64) -> 
 }
 
 // The slots of a level, and how many of them are not counted as taken.
-#[derive(Drop)]
+#[derive(Clone, Copy)]
 struct Room {
     size: u64,
     free: u64,

@@ -8,7 +8,7 @@ use refusal::{Gate, RangeRefusal};
 use words::place::Place;
 
 // A table of n slots with reserve 2^-e. Its words, its flags and the counts of its levels are lent beside it.
-#[derive(Drop)]
+#[derive(Clone, Copy)]
 pub struct FunnelTable {
     pub n: u64,
     pub e: u32,
@@ -19,7 +19,7 @@ pub struct FunnelTable {
 }
 
 // What a search along a path, or along a part of one, comes to.
-#[derive(Drop)]
+#[derive(Clone, Copy)]
 pub enum Search {
     Hit { probes: u64, place: Place },
     Vacant { probes: u64, place: Place },
@@ -28,7 +28,7 @@ pub enum Search {
 }
 
 // Where a search stops, as far as slots go: at a slot that holds the identity, at a vacant one, or nowhere among those passed.
-#[derive(Drop)]
+#[derive(Clone, Copy)]
 pub enum Stop {
     Hit { slot: u64 },
     Vacant { slot: u64 },
@@ -36,7 +36,7 @@ pub enum Stop {
 }
 
 // Where a bucket stops a search: at the slot with an index in it, or nowhere.
-#[derive(Drop)]
+#[derive(Clone, Copy)]
 pub enum Halt {
     Hit { index: u64 },
     Vacant { index: u64 },
@@ -45,7 +45,7 @@ pub enum Halt {
 
 // Where a walk over the levels by first words ends: at a slot, told by level, bucket, the bucket's first slot and the index in it; past
 // them all; or before a level whose first word is rejected.
-#[derive(Drop)]
+#[derive(Clone, Copy)]
 pub enum Walk {
     Hit(u64, u64, u64, u64),
     Vacant(u64, u64, u64, u64),
@@ -54,7 +54,7 @@ pub enum Walk {
 }
 
 // What an insertion into a valid table is answered.
-#[derive(Drop)]
+#[derive(Clone, Copy)]
 pub enum Insertion {
     Inserted { probes: u64, place: Place },
     Range(RangeRefusal),
@@ -64,14 +64,14 @@ pub enum Insertion {
 }
 
 // The answer of an insertion and the table after it.
-#[derive(Drop)]
+#[derive(Clone, Copy)]
 pub struct Step {
     pub answer: Insertion,
     pub table: FunnelTable,
 }
 
 // What placing many identities is answered: that all have their slot, or the first refusal with its index.
-#[derive(Drop)]
+#[derive(Clone, Copy)]
 pub enum Placement {
     All,
     Range { index: u64, refusal: RangeRefusal },
@@ -80,7 +80,7 @@ pub enum Placement {
 }
 
 // What the insertion of one identity is to a placement: its slot, where it was put or is already, or the answer that ends it.
-#[derive(Drop)]
+#[derive(Clone, Copy)]
 pub enum Settled {
     Put { slot: u64 },
     There { slot: u64 },
@@ -88,32 +88,32 @@ pub enum Settled {
 }
 
 // The answer of a placement and the table after it.
-#[derive(Drop)]
+#[derive(Clone, Copy)]
 pub struct PlacedAll {
     pub answer: Placement,
     pub table: FunnelTable,
 }
 
 // What the public calls answer: a refusal of the gate, or what the call on a valid table does.
-#[derive(Drop)]
+#[derive(Clone, Copy)]
 pub enum OpenAnswer {
     Gate(Gate),
     Table(FunnelTable),
 }
 
-#[derive(Drop)]
+#[derive(Clone, Copy)]
 pub enum SearchAnswer {
     Gate(Gate),
     Found(Search),
 }
 
-#[derive(Drop)]
+#[derive(Clone, Copy)]
 pub enum InsertAnswer {
     Gate(Gate),
     Done(Step),
 }
 
-#[derive(Drop)]
+#[derive(Clone, Copy)]
 pub enum PlaceAnswer {
     Gate(Gate),
     Done(PlacedAll),

@@ -9,7 +9,7 @@ use words::power::floor_div_pow2;
 pub const LARGEST_N: u64 = 4294967296;
 
 // What a gate says: all its tests passed, or the first that failed.
-#[derive(Drop)]
+#[derive(Clone, Copy)]
 pub enum Gated {
     Passed,
     Refused(Gate),

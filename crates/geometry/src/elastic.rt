@@ -12,13 +12,13 @@ use refusal::Gate;
 use words::power::{ceil_log2, floor_div_pow2};
 
 // The numbers of a plan. The lengths and quotas follow from n and e.
-#[derive(Drop)]
+#[derive(Clone, Copy)]
 pub struct ElasticPlan {
     pub levels: u64,
     pub maximum: u64,
 }
 
-#[derive(Drop)]
+#[derive(Clone, Copy)]
 pub enum ElasticPlanned {
     Plan(ElasticPlan),
     Refused(Gate),

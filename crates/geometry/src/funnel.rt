@@ -3,7 +3,7 @@
 use refusal::Gate;
 
 // The numbers of a plan; the counts of its levels are lent beside it, 118 of them, 0 past the last level.
-#[derive(Drop)]
+#[derive(Clone, Copy)]
 pub struct FunnelPlan {
     pub maximum: u64,
     pub alpha: u64,
@@ -19,7 +19,7 @@ pub struct FunnelPlan {
 }
 
 // What a request for a plan is answered.
-#[derive(Drop)]
+#[derive(Clone, Copy)]
 pub enum FunnelPlanned {
     Plan(FunnelPlan),
     Refused(Gate),

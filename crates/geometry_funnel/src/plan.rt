@@ -19,7 +19,7 @@ use refusal::Gate;
 use words::clear::clear_words;
 
 // The special length of n and e, or the gate's refusal.
-#[derive(Drop)]
+#[derive(Clone, Copy)]
 enum SpecialGated {
     Length(u64),
     Refused(Gate),

@@ -6,7 +6,7 @@ use crate::slots::power_of_two;
 use geometry_parts::special::base_two_loglog_ceiling;
 
 // The smallest n, or NONE.
-#[derive(Drop)]
+#[derive(Clone, Copy)]
 pub enum MinimumSlots {
     Slots(u64),
     Nothing,

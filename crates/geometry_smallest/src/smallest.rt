@@ -11,7 +11,7 @@ use geometry_funnel::plan::funnel_plan;
 use refusal::Gate;
 
 // What the question is answered: n with its plan, a refusal of the gate, or NONE.
-#[derive(Drop)]
+#[derive(Clone, Copy)]
 pub enum SmallestFunnel {
     Found(u64, FunnelPlan),
     Refused(Gate),

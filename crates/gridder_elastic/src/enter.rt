@@ -12,7 +12,7 @@ use lent::word::word_count;
 use refusal::Gate;
 
 // A table whose tests passed, or what they refuse.
-#[derive(Drop)]
+#[derive(Clone, Copy)]
 pub enum Entered {
     Refused(Gate),
     Open(State),

@@ -19,7 +19,7 @@ const KINDS: u8 = 6;
 
 // A kind of field: its tag, whether it must stand, the least and the most bytes of its body, what these are a multiple of, and
 // whether another may stand behind a full one.
-#[derive(Drop)]
+#[derive(Clone, Copy)]
 pub struct Kind {
     pub tag: u8,
     pub must: bool,
@@ -30,7 +30,7 @@ pub struct Kind {
 }
 
 // A field whose tag, length and body are right, or the place that is wrong.
-#[derive(Drop)]
+#[derive(Clone, Copy)]
 pub enum Framed {
     Wrong { place: usize },
     Field { tag: u8, len: usize },

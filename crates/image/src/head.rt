@@ -2,7 +2,7 @@
 ghost use Rattle.std.specs.Prelude.{◌≡◌};
 ghost use Rattle.image.specs.Head.{same_head};
 
-#[derive(Drop)]
+#[derive(Clone, Copy)]
 pub struct Head {
     pub n: u64,
     pub e: u64,

@@ -12,6 +12,8 @@
 // A reader carries a stage from field to field: the lowest rank that may come next, the rank of a field being the place of its kind in the format's table
 // (`fields` of specs/Format.antt, `kind_at` of field.rt). So another field is another row, and another format another table.
 
+#![tactic(auto)]
+
 pub mod field;
 pub mod head;
 pub mod reader;

@@ -11,7 +11,7 @@ use words::bytes::{read32, read64};
 
 // What a reader carries from field to field: the lowest rank that may come, the offset, what the fields said, how many
 // entries there were, and the least slot that may follow.
-#[derive(Drop)]
+#[derive(Clone, Copy)]
 pub struct Cursor {
     pub low: u8,
     pub at: usize,
@@ -23,7 +23,7 @@ pub struct Cursor {
 }
 
 // What an image says, but for its entries.
-#[derive(Drop)]
+#[derive(Clone, Copy)]
 pub struct Outline {
     pub head: Head,
     pub label_at: usize,
@@ -31,14 +31,14 @@ pub struct Outline {
     pub count: usize,
 }
 
-#[derive(Drop)]
+#[derive(Clone, Copy)]
 pub enum Outcome {
     Bad { place: usize },
     Good { outline: Outline },
 }
 
 // Whether a body's content is right, with the least slot that may follow.
-#[derive(Drop)]
+#[derive(Clone, Copy)]
 pub enum Content {
     Off,
     Right { floor: u64 },

@@ -14,7 +14,7 @@ use refusal::Gate;
 
 // What the loader answers: a refusal of the gate, IMAGE with its place, FOREIGN, or the table with its new count and the
 // place of the label's body, two zeros if there is none.
-#[derive(Drop)]
+#[derive(Clone, Copy)]
 pub enum Loaded {
     Gate(Gate),
     Image {

@@ -17,7 +17,7 @@ use words::bytes::read64;
 use words::clear::{clear_bytes, clear_words};
 
 // What loading into valid buffers comes to: IMAGE with its place, FOREIGN, or the number of entries and the label's place.
-#[derive(Drop)]
+#[derive(Clone, Copy)]
 pub enum Filled {
     Image {
         place: u64,

@@ -6,7 +6,7 @@ ghost use Rattle.lent.specs.Lent.{words_in};
 use lent::store::word;
 
 // The smallest dirty slot, or the number of occupied slots of a table that has none.
-#[derive(Drop)]
+#[derive(Clone, Copy)]
 pub enum Scan {
     Dirty { slot: usize },
     Clean { count: usize },

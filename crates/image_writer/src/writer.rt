@@ -17,7 +17,7 @@ use words::bytes::{write16, write32, write64};
 use words::place::GlobalSlot;
 
 // What the writer answers: a refusal of the gate, DIRTY with the smallest dirty slot, ROOM with the length that the image needs, or the image's length.
-#[derive(Drop)]
+#[derive(Clone, Copy)]
 pub enum Written {
     Gate(Gate),
     Dirty { slot: GlobalSlot },

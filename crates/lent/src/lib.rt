@@ -9,5 +9,7 @@
 //
 // specs/Lent.antt says what words lent as bytes are, and what words in two slices are.
 
+#![tactic(auto)]
+
 pub mod store;
 pub mod word;

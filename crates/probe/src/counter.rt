@@ -19,7 +19,7 @@ pub const FUNNEL_PROBES: u64 = 256;
 pub const FUNNEL_WORDS: u64 = 256;
 
 // What a funnel's word is for. Only an ordinary one has a level, so that no special tag comes with one.
-#[derive(Drop)]
+#[derive(Clone, Copy)]
 pub enum Domain {
     Ordinary { level: u64 },
     Primary,
@@ -28,7 +28,7 @@ pub enum Domain {
 }
 
 // A counter, or the refusal of a field beyond the packing.
-#[derive(Drop)]
+#[derive(Clone, Copy)]
 pub enum PackedCounter {
     Packed(u64),
     Counter,

@@ -15,21 +15,21 @@ use words::power::two64_mod;
 use words::product::{multiply, multiply_high};
 
 // What words gave: an index and how many it took, or that so many were rejected and no more are allowed.
-#[derive(Drop)]
+#[derive(Clone, Copy)]
 pub enum Trial {
     Index { index: u64, words: u64 },
     Rejected { words: u64 },
 }
 
 // What a reduction gives where its range and counters are right: an index and the words it took, or that all were rejected, and where.
-#[derive(Drop)]
+#[derive(Clone, Copy)]
 pub enum Drawn {
     Index { index: u64, words: u64 },
     Refused(RangeRefusal),
 }
 
 // What the bare reduction answers.
-#[derive(Drop)]
+#[derive(Clone, Copy)]
 pub enum Reduced {
     Index { index: u64, words: u64 },
     Upper,

@@ -7,14 +7,14 @@ use crate::mix::mix64;
 use words::place::LogicalProbe;
 
 // The two numbers that key a funnel's words: 01's "in" and "out", the Rust's `key_in` and `key_out`.
-#[derive(Drop)]
+#[derive(Clone, Copy)]
 pub struct FunnelKey {
     pub inner: u64,
     pub outer: u64,
 }
 
 // A word, or the refusal of a field beyond the packing.
-#[derive(Drop)]
+#[derive(Clone, Copy)]
 pub enum ProbeWord {
     Word(u64),
     Counter,

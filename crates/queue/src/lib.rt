@@ -15,6 +15,8 @@
 //     specs/Queue.antt   the queue, and what the calls promise     specs/Level.antt   one level over another
 //     specs/*Laws.antt   what the proofs cite
 
+#![tactic(auto)]
+
 pub mod keep;
 pub mod level;
 pub mod scan;

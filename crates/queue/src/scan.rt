@@ -3,7 +3,7 @@ ghost use Rattle.std.specs.Prelude.{◌≡◌, ◌≤◌, length};
 ghost use Rattle.queue.specs.Level.{FirstSet, Wiped};
 
 // The smallest number in a queue, where there is one.
-#[derive(Drop)]
+#[derive(Clone, Copy)]
 pub enum Smallest {
     At { number: u64 },
     Nothing,

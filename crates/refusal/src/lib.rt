@@ -4,6 +4,9 @@
 // give, with their values. What they share is here: the names with their numbers, the refusals 1 to 7 that calls on a
 // table test first, and the refusal of a range reduction, which every caller hands on unchanged. A definition
 // `report_of` beside each answer gives a case its number, by `number_of`, and its values.
+
+#![tactic(auto)]
+
 ghost use Rattle.std.specs.Prelude.{◌≡◌};
 ghost use Rattle.refusal.specs.Draw.{domain_of, draw_level_of};
 ghost use Rattle.refusal.specs.Table.{number_of, name_of};
@@ -11,7 +14,7 @@ ghost use Rattle.refusal.specs.Table.{number_of, name_of};
 use words::place::LogicalProbe;
 
 // The rows of the table, in its order.
-#[derive(Drop)]
+#[derive(Clone, Copy)]
 pub enum Name {
     N,
     ZeroExp,
@@ -43,7 +46,7 @@ pub enum Name {
 }
 
 // The refusals that are tested first, in this order, by every call on a table.
-#[derive(Drop)]
+#[derive(Clone, Copy)]
 pub enum Gate {
     N,
     ZeroExp,
@@ -56,7 +59,7 @@ pub enum Gate {
 
 // What an index was drawn for: a bucket of an ordinary level, a primary slot, a fallback bucket A or B, or a slot of an elastic level. Only what
 // has a level carries one.
-#[derive(Drop)]
+#[derive(Clone, Copy)]
 pub enum Draw {
     Ordinary { level: u64 },
     Primary,
@@ -67,7 +70,7 @@ pub enum Draw {
 
 // All allowed words were rejected: how many these were, and which draw they were for. It is made in the reductions alone, and every caller
 // hands it on as it is.
-#[derive(Drop)]
+#[derive(Clone, Copy)]
 pub struct RangeRefusal {
     pub words: u64,
     pub draw: Draw,

@@ -9,6 +9,8 @@
 // The functions of product.rt and power.rt carry `floor_div_pow2`, `ceil_div_pow2` and `ceil_log2` of the Rust's
 // geometry.rs and stand in for its u128. Contracts are the mathematical meaning, over natural numbers.
 
+#![tactic(auto)]
+
 pub mod bytes;
 pub mod clear;
 pub mod place;

@@ -1,23 +1,23 @@
 // Positions that are counted apart, each a type of its own so that no two can be mixed up.
 
 // A slot counted from the start of its level.
-#[derive(Drop)]
+#[derive(Clone, Copy)]
 pub struct LevelSlot(pub u64);
 
 // A slot counted from the start of the table.
-#[derive(Drop)]
+#[derive(Clone, Copy)]
 pub struct GlobalSlot(pub u64);
 
 // A probe as the paper counts, from 1.
-#[derive(Drop)]
+#[derive(Clone, Copy)]
 pub struct PaperProbe(pub u64);
 
 // A probe as the counters count, from 0.
-#[derive(Drop)]
+#[derive(Clone, Copy)]
 pub struct LogicalProbe(pub u64);
 
 // Where a cell of a funnel table sits: the Rust's `ScalarFunnelLocation`.
-#[derive(Drop)]
+#[derive(Clone, Copy)]
 pub enum Place {
     Ordinary {
         level: u64,

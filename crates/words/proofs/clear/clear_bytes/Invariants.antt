@@ -1,0 +1,12 @@
+-- `words::IsClear::clear_bytes` meets its contract. The invariant: zeros in front, and behind them the old entries. Assumes nothing.
+use Prim.Native.Nat.{◌-◌, ◌≤◌}
+use mathlib.Core.Path.{◌≡◌}
+use mathlib.Core.List.{◌++◌}
+use lib.ListN.{length, drop, replicate}
+use Rattle.words.proofs.clear.clear_bytes.Given as goal
+
+abbrev pub invariant-loop-i : goal.invariant-loop-i
+invariant-loop-i l = (l.i ≤ length l.initial.bytes) × (length l.bytes ≡ length l.initial.bytes) × (l.bytes ≡ replicate l.i 0 ++ drop l.i l.initial.bytes)
+
+abbrev pub decreases-loop-i : goal.decreases-loop-i
+decreases-loop-i l = length l.bytes - l.i
