@@ -14,5 +14,7 @@
 //     state.rt     the state, its limits, the tests 1 to 3, 6 and 7; opening
 //     route.rt     the slot of a probe; the search for a vacancy; the scan for an identity
 
+#![tactic(auto)]
+
 pub mod route;
 pub mod state;

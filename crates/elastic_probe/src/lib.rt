@@ -8,6 +8,8 @@
 //
 // Public functions refuse what 01 says they refuse, and require nothing.
 
+#![tactic(auto)]
+
 pub mod budget;
 pub mod phi;
 pub mod wide;

@@ -19,5 +19,7 @@
 // specs/Path.antt says what a path is, Search.antt and Insert.antt what a search and an insertion are, Calls.antt what the
 // public calls answer; FreshLaws.antt has the theorems about a table over time.
 
+#![tactic(auto)]
+
 pub mod scan;
 pub mod table;

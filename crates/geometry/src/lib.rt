@@ -13,6 +13,8 @@
 // is proved as a whole, so each is one. What a plan is stands here, in specs/Funnel.antt (with Special.antt and Counts.antt), what
 // callers may lean on in FunnelLaws.antt, PartLaws.antt and FunnelGateLaws.antt.
 
+#![tactic(auto)]
+
 pub mod config;
 pub mod elastic;
 pub mod funnel;

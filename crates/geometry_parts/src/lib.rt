@@ -3,5 +3,7 @@
 //     special.rt   the special length s: the largest of its range
 //     counts.rt    the bucket counts of the levels, each the largest that leaves a sum that can be met
 
+#![tactic(auto)]
+
 pub mod counts;
 pub mod special;

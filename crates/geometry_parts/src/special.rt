@@ -68,7 +68,7 @@ fn largest_special_length(n: u64, lo: u64, hi: u64, h: u64, w: u64) -> u64
 
 // The same from the largest length that leaves whole buckets down: w steps pass every residue.
 fn search_down(n: u64, lo: u64, hi: u64, h: u64, w: u64, top: u64) -> u64
-    requires hi_le_n { (hi ≤ n) × (0 < h) × (h ≤ 27) × (0 < w) × (2 ≤ lo) }
+    requires bounds { (hi ≤ n) × (0 < h) × (h ≤ 27) × (0 < w) × (2 ≤ lo) }
     requires below { Below n lo hi (2 * h) w top }
     ensures { Found n lo hi (2 * h) w result }
 {

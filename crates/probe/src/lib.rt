@@ -15,6 +15,8 @@
 // Public functions refuse what 01 says they refuse, and require nothing. The tables use the cores beside them, which
 // take keys worked out once for an identity and a counter whose retry is 0.
 
+#![tactic(auto)]
+
 pub mod counter;
 pub mod mix;
 pub mod range;

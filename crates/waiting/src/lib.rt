@@ -14,4 +14,6 @@
 //     specs/Links.antt     the bytes, and what each call leaves in them     specs/Waiting.antt   the chains, and what lies on them
 //     specs/*Laws.antt     what the proofs cite; WaitingLaws: the chains stay right
 
+#![tactic(auto)]
+
 pub mod chain;

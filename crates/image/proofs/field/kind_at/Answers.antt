@@ -31,4 +31,4 @@ unfolding kind_at fields
 returns-in-5 c = rw c.in-5.is c.number-in-5.ensures
 
 pub returns-in_default : goal.returns-in_default
-returns-in_default c = c.number-in_default.ensures ∙ kind_past _ (omega (arith, c.in-0.rest))
+returns-in_default c = c.number-in_default.ensures ∙ kind_past _ (omega arith)

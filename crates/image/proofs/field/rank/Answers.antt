@@ -2,6 +2,7 @@
 use Rattle.image.specs.Format.{fields}
 use Rattle.image.specs.Reading.{rank_of}
 use Rattle.image.specs.KindLaws.{rank_none}
+use Rattle.std.proofs.Common.{arith}
 use Rattle.image.proofs.field.rank.Goals as goal
 
 pub returns-in-1 : goal.returns-in-1
@@ -29,4 +30,4 @@ unfolding rank_of fields
 returns-in-6 c = rw c.in-6.is
 
 pub returns-in_default : goal.returns-in_default
-returns-in_default c = let m = c.in-1.rest in rank_none _ m.0.0.0.0.0.1 m.0.0.0.0.1 m.0.0.0.1 m.0.0.1 m.0.1 m.1
+returns-in_default c = rank_none _ (λ e. omega arith) (λ e. omega arith) (λ e. omega arith) (λ e. omega arith) (λ e. omega arith) (λ e. omega arith)

@@ -1,0 +1,2 @@
+mod ActiveBatch
+mod Fill
