@@ -4,4 +4,6 @@
 //
 // specs/Query.antt says what a query is, position by position; QuerySteps.antt how the mapped ones are walked.
 
+#![tactic(auto)]
+
 pub mod query;

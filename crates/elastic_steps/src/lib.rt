@@ -6,5 +6,7 @@
 //
 // specs/Insert.antt says what an insertion is.
 
+#![tactic(auto)]
+
 pub mod answer;
 pub mod steps;

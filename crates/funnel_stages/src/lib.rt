@@ -3,4 +3,6 @@
 //
 //     stages.rt     the levels, the primary probes, the two fallback buckets
 
+#![tactic(auto)]
+
 pub mod stages;

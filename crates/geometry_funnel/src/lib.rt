@@ -5,6 +5,8 @@
 //     special_test.rt  a test of the special length without a division
 //     counts_test.rt   a test of the counts by one walk from their end, which is much cheaper than computing them
 
+#![tactic(auto)]
+
 mod counts_test;
 pub mod plan;
 mod special_test;

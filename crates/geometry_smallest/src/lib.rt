@@ -17,6 +17,8 @@
 //     slots.rt      the smallest n that a count asks for
 //     minimum.rt    a lower bound on the n that have a layout, which is no layout yet
 
+#![tactic(auto)]
+
 mod layouts;
 pub mod minimum;
 mod slots;

@@ -19,5 +19,7 @@
 //
 // specs/Answer.antt says what it holds.
 
+#![tactic(auto)]
+
 pub mod answer;
 pub mod gate;

@@ -18,4 +18,6 @@
 //
 // specs/State.antt says what it holds.
 
+#![tactic(auto)]
+
 pub mod state;

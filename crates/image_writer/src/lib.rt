@@ -6,5 +6,7 @@
 //     specs/Writing.antt   what the writer answers and writes     specs/Pieces.antt   what each of its functions writes
 //     specs/Dirty.antt     the smallest dirty slot                specs/*Laws.antt    what the proofs cite
 
+#![tactic(auto)]
+
 pub mod dirty;
 pub mod writer;

@@ -1,0 +1,22 @@
+-- `elastic_steps::steps::pair` meets its contract: each return is a law of the pair. Assumes nothing.
+use native.Mathlib.Omega.{arith}
+use Rattle.elastic_steps.specs.InsertLaws.{pairing_room, pair_schedule, pair_next, pair_current, pair_neither}
+use Rattle.elastic_steps.proofs.steps.pair.Goals as goal
+
+pub room_of-here-requires : goal.room_of-here-requires
+room_of-here-requires c = pairing_room c.requires _ (omega arith)
+
+pub room_of-there-requires : goal.room_of-there-requires
+room_of-there-requires c = pairing_room c.requires _ (omega arith)
+
+pub returns-then-next_free-next_reserve : goal.returns-then-next_free-next_reserve
+returns-then-next_free-next_reserve c = pair_schedule _ _ _ _ _ _ _ _ _ _ c.room_of-here.ensures.0 c.room_of-there.ensures.0 c.room_of-here.ensures.1 c.room_of-there.ensures.1 c.floor_div_pow2-reserve.ensures c.if-free-reserve.true c.if-next_free-next_reserve.true
+
+pub returns-then-free-reserve : goal.returns-then-free-reserve
+returns-then-free-reserve c = pair_next _ _ _ _ _ _ _ _ _ _ c.room_of-here.ensures.0 c.room_of-there.ensures.0 c.room_of-here.ensures.1 c.room_of-there.ensures.1 c.floor_div_pow2-reserve.ensures _ c.if-free-reserve.true c.if-next_free-next_reserve.false c.uniform.ensures
+
+pub returns-then-next_free-next_reserve-2 : goal.returns-then-next_free-next_reserve-2
+returns-then-next_free-next_reserve-2 c = pair_current _ _ _ _ _ _ _ _ _ _ c.room_of-here.ensures.0 c.room_of-there.ensures.0 c.room_of-here.ensures.1 c.room_of-there.ensures.1 c.floor_div_pow2-reserve.ensures _ c.if-free-reserve.false c.if-next_free-next_reserve-2.true c.uniform-then-next_free-next_reserve-2.ensures
+
+pub returns : goal.returns
+returns c = pair_neither _ _ _ _ _ _ _ _ _ _ c.room_of-here.ensures.0 c.room_of-there.ensures.0 c.room_of-here.ensures.1 c.room_of-there.ensures.1 c.floor_div_pow2-reserve.ensures _ c.if-free-reserve.false c.if-next_free-next_reserve-2.false c.budgeted.ensures

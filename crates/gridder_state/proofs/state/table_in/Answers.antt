@@ -1,0 +1,30 @@
+-- `gridder_state::state::table_in` meets its contract. Field by field; a block that holds a state is long enough, and its e fits. Assumes nothing.
+use native.Mathlib.Omega.{arith}
+use Rattle.gridder_state.specs.State.{table_in}
+use Rattle.gridder_state.specs.StateLaws.{holds_facts}
+use Rattle.gridder_state.proofs.state.table_in.Goals as goal
+
+pub read64-e-requires : goal.read64-e-requires
+read64-e-requires c = let h = holds_facts _ _ c.requires in omega arith
+
+pub plan_in-plan-requires : goal.plan_in-plan-requires
+plan_in-plan-requires c = let h = holds_facts _ _ c.requires in omega arith
+
+pub read64-requires : goal.read64-requires
+read64-requires c = let h = holds_facts _ _ c.requires in omega arith
+
+pub overflow_cast-result : goal.overflow_cast-result
+overflow_cast-result c = let h = holds_facts _ _ c.requires in let e = c.read64-e.ensures in omega arith
+
+pub read64-requires-2 : goal.read64-requires-2
+read64-requires-2 c = let h = holds_facts _ _ c.requires in omega arith
+
+pub read64-requires-3 : goal.read64-requires-3
+read64-requires-3 c = let h = holds_facts _ _ c.requires in omega arith
+
+pub read64-requires-4 : goal.read64-requires-4
+read64-requires-4 c = let h = holds_facts _ _ c.requires in omega arith
+
+pub returns : goal.returns
+unfolding table_in
+returns c = cc
