@@ -1,5 +1,5 @@
 -- What a probe of a level reads; the search of a level for a vacancy; the first slot that holds an identity. Assumes nothing.
-use Rattle.std.specs.Prelude.{Bool, true, false, List, [], ◌∷◌, ◌≡◌, ℕ, zero, suc, ◌+◌, ◌-◌, ◌≤◌, ◌<◌, eqb, length, get_or}
+use Rattle.std.specs.Prelude.{Bool, false, List, ◌≡◌, ℕ, zero, suc, ◌+◌, ◌≤◌, ◌<◌, eqb, length, get_or}
 use Rattle.words.specs.Pick.{pick}
 use Rattle.geometry.specs.Elastic.{levels_of, length_at, offset_at}
 use Rattle.probe.specs.Range.{keyed_draw_of}

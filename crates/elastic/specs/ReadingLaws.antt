@@ -1,9 +1,9 @@
 -- Laws of readings, searches and scans. Assumes nothing.
-use Rattle.std.specs.Prelude.{Bool, List, [], ◌∷◌, ◌≡◌, get_or}
+use Rattle.std.specs.Prelude.{Bool, List, ◌≡◌, get_or}
 use Rattle.std.proofs.Math.Bool.{true, false}
 use Rattle.std.proofs.Math.Path.{refl, sym, ap}
 use Rattle.std.proofs.Common.{◌∙◌}
-use Prim.Native.Nat.{ℕ, zero, suc, ◌+◌, ◌-◌, ◌*◌, ◌/◌, ◌^◌, ◌≤◌, ◌<◌}
+use Prim.Native.Nat.{ℕ, zero, suc, ◌+◌, ◌-◌, ◌/◌, ◌^◌, ◌≤◌, ◌<◌}
 use native.Mathlib.Omega.{arith}
 use Rattle.std.proofs.Math.Dec.{eqb}
 use Rattle.std.proofs.Math.ListN.{length}
@@ -20,11 +20,9 @@ use Rattle.probe.specs.declared.range.Drawn.{Drawn}
 use Rattle.probe.specs.declared.range.Drawn.TheVariants as drawn
 use Rattle.elastic.specs.declared.route.Reading.{Reading}
 use Rattle.elastic.specs.declared.route.Reading.TheVariants as reading
-use Rattle.elastic.specs.declared.route.Sought.{Sought}
 use Rattle.elastic.specs.declared.route.Sought.TheVariants as sought
-use Rattle.elastic.specs.declared.route.Located.{Located}
 use Rattle.elastic.specs.declared.route.Located.TheVariants as located
-use Rattle.elastic.specs.Reading.{reading_by, reading_of, vacant_at, holds_at, seek_by, seek_from, seek_of, first_from, first_of, alike, Without, Probed, Seekable, Read}
+use Rattle.elastic.specs.Reading.{reading_by, reading_of, vacant_at, holds_at, seek_by, seek_from, seek_of, first_from, first_of, alike, Without, Probed, Read}
 
 -- ---- levels that can be probed
 

@@ -2,15 +2,14 @@
 use Rattle.std.specs.Prelude.{Bool, not, List, [], ◌≡◌, ℕ, eqb, ltb, length}
 use Rattle.std.proofs.Math.Bool.{true, false}
 use Rattle.std.proofs.Math.Path.{refl}
-use Rattle.refusal.specs.Table.{name_of, Report, answered, refused}
+use Rattle.refusal.specs.Table.{name_of, answered, refused}
 use Rattle.refusal.specs.declared.Gate.TheVariants as gate
 use Rattle.refusal.specs.declared.Name.TheVariants as name
 use Rattle.words.specs.Pick.{pick}
-use Rattle.geometry.specs.Config.{refuse_if, config_then, config_gate, gated_report}
+use Rattle.geometry.specs.Config.{refuse_if, config_then, gated_report}
 use Rattle.geometry.specs.declared.config.Gated.TheVariants.{Passed}
 use Rattle.elastic.specs.declared.state.Limits.{Limits}
-use Rattle.elastic.specs.declared.state.State.{State}
-use Rattle.elastic.specs.State.{limits_fit, buffers_fit, state_fits, demand, setting_gate, open_gate, gate_of, open_by, open_of, open_report}
+use Rattle.elastic.specs.State.{limits_fit, buffers_fit, demand, setting_gate, open_gate, open_by, open_of, open_report}
 
 -- "Order: 1 to 7 by number": N, ZEROEXP, SIZE, LIMITS, STATE
 module _ (n e : ℕ) (limits : Limits) where

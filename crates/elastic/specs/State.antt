@@ -1,5 +1,5 @@
 -- The state of an elastic table: the tests 1 to 3, 6 and 7, and the opening. Assumes nothing.
-use Rattle.std.specs.Prelude.{Bool, true, false, List, [], ◌∷◌, ◌≡◌, ℕ, zero, suc, ◌+◌, ◌-◌, ◌*◌, ◌≤◌, ◌<◌, min, eqb, ltb, leb, length, get_or, replicate}
+use Rattle.std.specs.Prelude.{Bool, true, false, List, [], ◌∷◌, ◌≡◌, ℕ, ◌+◌, ◌*◌, ◌≤◌, ◌<◌, min, eqb, leb, length, get_or, replicate}
 use Rattle.refusal.specs.Table.{name_of, Report, answered, refused}
 use Rattle.refusal.specs.declared.Gate.{Gate}
 use Rattle.refusal.specs.declared.Gate.TheVariants as gate

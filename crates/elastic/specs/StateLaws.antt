@@ -1,24 +1,22 @@
 -- Laws of the state: how its tests are made, and what they say once passed. Assumes nothing.
-use Rattle.std.specs.Prelude.{Bool, true, List, [], ◌∷◌, ◌≡◌, refl, eqb, ltb, leb, length, get_or, drop, replicate}
+use Rattle.std.specs.Prelude.{Bool, true, List, [], ◌∷◌, ◌≡◌, refl, eqb, leb, length, get_or, replicate}
 use Rattle.std.proofs.Math.Bool.{false}
 use Rattle.std.proofs.Math.Path.{sym}
-use Rattle.std.proofs.Common.{ap, ◌∙◌, le-div_iff_mul-le, mul_comm}
+use Rattle.std.proofs.Common.{ap, le-div_iff_mul-le}
 use Prim.Native.Nat.{ℕ, zero, suc, ◌+◌, ◌-◌, ◌*◌, ◌/◌, ◌≤◌, ◌<◌, min}
 use native.Mathlib.Omega.{arith}
-use borrow.Author.Tests.{eq-eqb, ne_eqb, lt-ltb, le-ltb, le-leb, lt-leb, eqb-true, eqb-false, leb-true, leb-false}
+use borrow.Author.Tests.{eq-eqb, ne_eqb, le-leb, lt-leb, eqb-true, eqb-false, leb-true, leb-false}
 use Rattle.refusal.specs.declared.Gate.{Gate}
-use Rattle.refusal.specs.declared.Gate.TheVariants as gate
 use Rattle.geometry.specs.declared.config.Gated.{Gated}
 use Rattle.geometry.specs.declared.config.Gated.TheVariants.{Passed, Refused}
-use Rattle.geometry.specs.declared.elastic.ElasticPlan.{ElasticPlan}
-use Rattle.geometry.specs.Config.{Configured, config_gate, maximum}
+use Rattle.geometry.specs.Config.{Configured, maximum}
 use Rattle.geometry.specs.ConfigLaws.{config_gate_facts}
-use Rattle.geometry.specs.Elastic.{both, total, levels_of, lengths_of, split, next_length, level_length, plan_of, is_plan_of}
+use Rattle.geometry.specs.Elastic.{both, total, levels_of, lengths_of, split, next_length, level_length}
 use Rattle.geometry.specs.ElasticLaws.{plan_facts}
 use Rattle.elastic.specs.declared.state.Limits.{Limits}
 use Rattle.elastic.specs.declared.state.State.{State}
 use Rattle.elastic.specs.declared.state.Opened.TheVariants as opening
-use Rattle.elastic.specs.State.{cap_fits, factor_fits, limits_fit, buffers_fit, counts_within, counts_fit, state_fits, demand, setting_gate, open_gate, gate_of, OpenDone, opened, fresh_of, open_by, open_of, LimitsFacts, Valid}
+use Rattle.elastic.specs.State.{cap_fits, factor_fits, limits_fit, counts_within, counts_fit, state_fits, demand, setting_gate, open_gate, gate_of, OpenDone, opened, fresh_of, open_by, open_of, LimitsFacts, Valid}
 
 -- ---- tests one after the other
 

@@ -1,5 +1,5 @@
 -- Laws of the length of a number in bits. Assumes nothing.
-use Rattle.std.specs.Prelude.{◌≡◌, refl, ℕ, zero, suc, ◌+◌, ◌*◌, ◌-◌, ◌/◌, ◌^◌, ◌≤◌, ◌<◌}
+use Rattle.std.specs.Prelude.{◌≡◌, refl, ℕ, zero, suc, ◌+◌, ◌*◌, ◌/◌, ◌^◌, ◌≤◌, ◌<◌}
 use Rattle.std.proofs.Common.{ap, sym, ◌∙◌, pow-suc, suc-mul, mul_assoc, mul-le-mul_right, lt_of_not-le, lt_of_lt_of_le, arith, pow_pos, pow_mono, pow-add}
 use Rattle.std.proofs.Math.Nat.{pow-zero}
 use Rattle.std.proofs.Math.Decide.{dec_le}

@@ -10,7 +10,7 @@ use Rattle.std.proofs.lemmas.Nat.{mod-pow-add}
 use borrow.Author.Tests.{lt-ltb, le-ltb, eq-eqb, ne_eqb}
 use Rattle.elastic_probe.specs.Length.{bits_of}
 use Rattle.elastic_probe.specs.LengthLaws.{has_top, bits_zero, bits_none, bits_pos, bits_half}
-use Rattle.elastic_probe.specs.Phi.{pairs, phi, gap, at, parse, start, coords_of}
+use Rattle.elastic_probe.specs.Phi.{pairs, phi, gap, parse, start, coords_of}
 use Rattle.elastic_probe.specs.PhiLaws.{pairs_last, parse_low, parse_last, parse_bit, phi_over, phi_fits}
 use Rattle.elastic_probe.specs.Wide.{wide_of}
 use Rattle.elastic_probe.specs.WideLaws.{wide_is}

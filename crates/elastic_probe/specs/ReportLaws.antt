@@ -1,7 +1,7 @@
 -- What each public call reports, in 01's words: its refusals by name and in their order, then its values. Assumes nothing.
 use Rattle.std.specs.Prelude.{[], ◌∷◌, ◌≡◌, refl, ℕ, ◌/◌, ◌%◌, ◌^◌, eqb, ltb}
 use Rattle.refusal.specs.declared.Name.TheVariants as name
-use Rattle.refusal.specs.Table.{Report, answered, refused}
+use Rattle.refusal.specs.Table.{answered, refused}
 use Rattle.words.specs.Pick.{pick}
 use Rattle.words.specs.PickLaws.{through}
 use Rattle.elastic_probe.specs.Budget.{probes_of, budget_of, budget_report}

@@ -1,5 +1,5 @@
 -- Laws of spread bits: by shifts, and as the pairs of phi. Assumes nothing.
-use Rattle.std.specs.Prelude.{Bool, true, false, ◌≡◌, refl, ℕ, zero, suc, ◌+◌, ◌*◌, ◌-◌, ◌/◌, ◌%◌, ◌^◌, ◌<◌, eqb, ltb}
+use Rattle.std.specs.Prelude.{Bool, true, false, ◌≡◌, refl, ℕ, zero, suc, ◌+◌, ◌*◌, ◌/◌, ◌%◌, ◌^◌, ◌<◌, eqb, ltb}
 use Rattle.std.proofs.Common.{ap, ap₂, sym, ◌∙◌, pow-suc, mod-eq_of_lt, arith, eqb-true, ltb-true}
 use Rattle.std.proofs.Math.Nat.{pow-zero}
 use Rattle.std.proofs.Math.Decide.{ℕ_discrete}

@@ -1,7 +1,6 @@
 -- The public calls: their gate, what each answers and leaves, and what it reports. Assumes nothing.
-use Rattle.std.specs.Prelude.{Bool, true, false, not, List, [], ◌∷◌, ◌≡◌, ℕ, eqb, ltb, length, replicate}
+use Rattle.std.specs.Prelude.{not, List, [], ◌∷◌, ◌≡◌, ℕ, eqb, ltb, length, replicate}
 use Rattle.refusal.specs.Table.{name_of, Report, answered, refused}
-use Rattle.refusal.specs.declared.Gate.{Gate}
 use Rattle.refusal.specs.declared.Gate.TheVariants as gate
 use Rattle.refusal.specs.declared.Name.TheVariants as name
 use Rattle.words.specs.declared.place.Place.{Place}

@@ -1,5 +1,5 @@
 -- Laws of properties of lists of places. Assumes nothing.
-use Rattle.std.specs.Prelude.{List, [], ◌∷◌, ◌++◌, ℕ, ◌+◌, ◌≤◌, ◌<◌}
+use Rattle.std.specs.Prelude.{List, [], ◌∷◌, ◌++◌, ℕ, ◌+◌, ◌≤◌}
 use Rattle.std.proofs.Common.{arith}
 use Rattle.words.specs.declared.place.Place.{Place}
 use Rattle.funnel.specs.Path.{slot_of}

@@ -1,5 +1,5 @@
 -- Small worked examples, in the table of 144 slots with e = 3, where every level is one bucket. Assumes nothing.
-use Rattle.std.specs.Prelude.{List, [], ◌∷◌, ◌++◌, ◌≡◌, refl, ℕ, length, replicate}
+use Rattle.std.specs.Prelude.{[], ◌∷◌, ◌≡◌, refl, length, replicate}
 use Rattle.words.specs.declared.place.Place.TheVariants as place
 use Rattle.geometry.specs.Counts.{total}
 use Rattle.probe.specs.Mix.{xor_bits, xor_shift, mix64_of}

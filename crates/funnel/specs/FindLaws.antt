@@ -1,6 +1,6 @@
 -- The three stages of a search put together. Assumes nothing.
-use Rattle.std.specs.Prelude.{Bool, true, false, List, [], ◌∷◌, ◌≡◌, refl, ℕ, ◌+◌, ◌*◌, ◌-◌, ◌≤◌, ◌<◌, length}
-use Rattle.std.proofs.Common.{ap, ◌∙◌, mul-le-mul_left, arith}
+use Rattle.std.specs.Prelude.{List, ◌≡◌, ℕ, ◌+◌, ◌*◌, ◌-◌, ◌≤◌, length}
+use Rattle.std.proofs.Common.{◌∙◌, mul-le-mul_left, arith}
 use Rattle.std.proofs.Math.Path.{sym}
 use Rattle.geometry.specs.FunnelLaws.{plan_facts}
 use Rattle.funnel.specs.declared.table.FunnelTable.{FunnelTable}

@@ -1,5 +1,5 @@
 -- A table over time: a fresh one, the one after some insertions, and what it is that a table is sound. Assumes nothing.
-use Rattle.std.specs.Prelude.{Bool, true, false, List, [], ◌∷◌, ◌≡◌, ℕ, ◌+◌, ◌≤◌, ◌<◌, eqb, length, get_or, replicate}
+use Rattle.std.specs.Prelude.{List, [], ◌∷◌, ◌≡◌, ℕ, ◌+◌, ◌≤◌, eqb, get_or, replicate}
 use Rattle.words.specs.Pick.{pick}
 use Rattle.geometry.specs.declared.funnel.FunnelPlan.{FunnelPlan}
 use Rattle.funnel.specs.declared.table.FunnelTable.{FunnelTable}

@@ -1,13 +1,12 @@
 -- What holds of a table over time: every state reached from a fresh one is sound, and what was inserted is found ever after.
 -- Assumes nothing.
-use Rattle.std.specs.Prelude.{Bool, true, false, List, [], ◌∷◌, ◌⊎◌, ◌≡◌, refl, ℕ, zero, suc, ◌+◌, ◌≤◌, ◌<◌, eqb, length, set, replicate}
-use Rattle.std.proofs.Common.{⊎_elim, ap, sym, subst, ◌∙◌, arith, length-set, get_or-set_other, eq-eqb, eqb-true}
+use Rattle.std.specs.Prelude.{Bool, true, false, List, [], ◌∷◌, ◌≡◌, refl, ℕ, zero, suc, ◌+◌, ◌≤◌, ◌<◌, eqb, length, set, replicate}
+use Rattle.std.proofs.Common.{⊎_elim, ap, sym, ◌∙◌, arith, length-set, get_or-set_other, eq-eqb, eqb-true}
 use Rattle.std.proofs.Math.ListN.{get_or}
 use Rattle.std.proofs.lemmas.List.{length-replicate}
 use Rattle.std.proofs.Math.Seq.{get_or-set_same}
 use Rattle.std.proofs.lemmas.Bool.{lt-leb, eqb-false}
 use Rattle.words.specs.BytesLaws.{get_d_zeros}
-use Rattle.words.specs.Pick.{pick}
 use Rattle.words.specs.declared.place.Place.{Place}
 use Rattle.geometry.specs.Funnel.{IsPlan}
 use Rattle.geometry.specs.FunnelLaws.{plan_facts}
@@ -18,7 +17,6 @@ use Rattle.funnel.specs.declared.table.Search.TheVariants as search
 use Rattle.funnel.specs.declared.table.Insertion.{Insertion}
 use Rattle.funnel.specs.declared.table.Insertion.TheVariants as insertion
 use Rattle.funnel.specs.Path.{Path, slot_of}
-use Rattle.funnel.specs.Every.{Every}
 use Rattle.funnel.specs.EveryLaws.{every_map}
 use Rattle.funnel.specs.Search.{search_of, table_path, find_of}
 use Rattle.funnel.specs.SearchLaws.{Passes, Reached, walk_vacant, walk_hit, reached_hit}

@@ -1,11 +1,10 @@
 -- Laws of insertion: what it does by what the search found, and what it changes. Assumes nothing.
-use Rattle.std.specs.Prelude.{Bool, List, [], ◌∷◌, ◌⊎◌, ℕ, ◌+◌, ◌≤◌, ◌<◌, length, get_or, set}
+use Rattle.std.specs.Prelude.{Bool, List, ◌⊎◌, ℕ, ◌+◌, ◌≤◌, ◌<◌, length, set}
 use Rattle.std.proofs.Math.Bool.{true, false}
-use Rattle.std.proofs.Common.{inl, inr, ⊎_elim, ap, ◌∙◌, arith, length-set}
+use Rattle.std.proofs.Common.{inl, inr, arith}
 use Rattle.std.proofs.Math.Path.{◌≡◌, refl, sym}
 use Rattle.std.proofs.Math.Dec.{leb}
-use borrow.Author.Tests.{le-leb, lt-leb, leb-true, leb-false}
-use Rattle.words.specs.Pick.{pick}
+use borrow.Author.Tests.{le-leb, lt-leb, leb-false}
 use Rattle.words.specs.declared.place.Place.{Place}
 use Rattle.refusal.specs.declared.RangeRefusal.{RangeRefusal}
 use Rattle.funnel.specs.declared.table.FunnelTable.{FunnelTable}
@@ -16,7 +15,7 @@ use Rattle.funnel.specs.declared.table.Insertion.TheVariants as insertion
 use Rattle.funnel.specs.Path.{slot_of}
 use Rattle.funnel.specs.PathLaws.{path_below}
 use Rattle.funnel.specs.Search.{find_of, search_of}
-use Rattle.funnel.specs.SearchLaws.{walk_vacant, walk_hit, every_reached}
+use Rattle.funnel.specs.SearchLaws.{walk_vacant, every_reached}
 use Rattle.funnel.specs.Insert.{Done, done, with_count, stepped, insert_by, insert_of}
 use Rattle.funnel.specs.Valid.{Valid}
 

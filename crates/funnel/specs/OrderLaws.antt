@@ -1,13 +1,12 @@
 -- In what order the parts of a path come, and when a part is reached. Assumes nothing.
 use Rattle.std.specs.Prelude.{List, [], ◌∷◌, ◌++◌, ◌⊎◌, ◌≡◌, length, get_or}
-use Rattle.std.proofs.Common.{append-nil, ap, ◌∙◌, suc-mul, zero-mul, arith, length-append}
+use Rattle.std.proofs.Common.{append-nil, ap, suc-mul, zero-mul, arith, length-append}
 use Rattle.std.proofs.Math.Logic.{inl, inr}
 use Rattle.std.proofs.Math.Path.{refl, sym}
-use Prim.Native.Nat.{ℕ, zero, suc, ◌+◌, ◌*◌, ◌-◌, ◌≤◌, ◌<◌}
+use Prim.Native.Nat.{ℕ, zero, suc, ◌+◌, ◌*◌, ◌<◌}
 use Rattle.words.specs.declared.place.Place.{Place}
 use Rattle.words.specs.declared.place.Place.TheVariants as place
 use Rattle.refusal.specs.declared.RangeRefusal.{RangeRefusal}
-use Rattle.geometry.specs.Counts.{total}
 use Rattle.geometry.specs.Funnel.{IsPlan}
 use Rattle.geometry.specs.declared.funnel.FunnelPlan.{FunnelPlan}
 use Rattle.probe.specs.declared.counter.Domain.TheVariants as domain

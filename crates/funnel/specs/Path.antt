@@ -6,7 +6,6 @@ use Rattle.words.specs.declared.place.Place.TheVariants as place
 use Rattle.refusal.specs.declared.RangeRefusal.{RangeRefusal}
 use Rattle.geometry.specs.Counts.{total}
 use Rattle.geometry.specs.declared.funnel.FunnelPlan.{FunnelPlan}
-use Rattle.probe.specs.declared.counter.Domain.{Domain}
 use Rattle.probe.specs.declared.counter.Domain.TheVariants as domain
 use Rattle.probe.specs.declared.range.Drawn.{Drawn}
 use Rattle.probe.specs.declared.range.Drawn.TheVariants as drawn

@@ -1,12 +1,11 @@
 -- Laws of paths: how long they are, that every slot lies in the table, and in what order the parts come. Assumes nothing.
-use Rattle.std.specs.Prelude.{List, [], ◌∷◌, ◌++◌, ◌≡◌, length, get_or}
+use Rattle.std.specs.Prelude.{List, [], ◌∷◌, ◌≡◌, length, get_or}
 use Rattle.std.proofs.Math.Path.{refl}
-use Rattle.std.proofs.Common.{ap, sym, ◌∙◌, suc-mul, zero-mul, length-append}
-use Prim.Native.Nat.{ℕ, zero, suc, ◌+◌, ◌*◌, ◌-◌, ◌≤◌, ◌<◌}
+use Rattle.std.proofs.Common.{ap, suc-mul, length-append}
+use Prim.Native.Nat.{ℕ, zero, suc, ◌+◌, ◌*◌, ◌≤◌, ◌<◌}
 use native.Mathlib.Omega.{arith}
 use Rattle.words.specs.declared.place.Place.{Place}
 use Rattle.words.specs.declared.place.Place.TheVariants as place
-use Rattle.refusal.specs.declared.RangeRefusal.{RangeRefusal}
 use Rattle.geometry.specs.Funnel.{IsPlan}
 use Rattle.geometry.specs.FunnelLaws.{plan_facts}
 use Rattle.geometry.specs.declared.funnel.FunnelPlan.{FunnelPlan}
@@ -15,10 +14,10 @@ use Rattle.probe.specs.declared.range.Drawn.{Drawn}
 use Rattle.probe.specs.declared.range.Drawn.TheVariants as drawn
 use Rattle.probe.specs.Range.{funnel_draw_of}
 use Rattle.probe.specs.RangeLaws.{funnel_draw_index}
-use Rattle.funnel.specs.Path.{Ending, full, refused, Path, slot_of, run, stopped, join_at, join, sampled, bucket_from, level_start, levels_from, primary_from, pairs_from, fallback_of, path_of, primary_start, fallback_start}
+use Rattle.funnel.specs.Path.{Ending, full, refused, Path, slot_of, run, join_at, join, sampled, bucket_from, level_start, levels_from, primary_from, pairs_from, fallback_of, path_of, primary_start, fallback_start}
 use Rattle.funnel.specs.Every.{Every, Rising, Between}
 use Rattle.funnel.specs.EveryLaws.{every_append, every_map, rising_lower, rising_append, rising_between}
-use Rattle.funnel.specs.PlanLaws.{part_room, level_room, bucket_room, fallback_room, primary_room, primary_start_lem}
+use Rattle.funnel.specs.PlanLaws.{part_room, level_room, fallback_room, primary_room, primary_start_lem}
 
 -- ---- lengths
 

@@ -1,14 +1,12 @@
 -- Where the parts of a valid table lie, as the stages of a search use it. Assumes nothing.
-use Rattle.std.specs.Prelude.{List, [], ◌∷◌, ◌≡◌, refl, ℕ, zero, suc, ◌+◌, ◌*◌, ◌-◌, ◌≤◌, ◌<◌, length, take, get_or}
+use Rattle.std.specs.Prelude.{List, ◌≡◌, ℕ, suc, ◌+◌, ◌*◌, ◌-◌, ◌≤◌, ◌<◌, get_or}
 use Rattle.std.proofs.Common.{ap, sym, ◌∙◌, suc-mul, zero-mul, mul-le-mul_right, arith}
 use Rattle.geometry.specs.Counts.{total}
 use Rattle.geometry.specs.Funnel.{IsPlan}
-use Rattle.geometry.specs.FunnelLaws.{PlanFacts, plan_facts, count_some, level_within}
+use Rattle.geometry.specs.FunnelLaws.{plan_facts, count_some, level_within}
 use Rattle.geometry.specs.LevelLaws.{start_next}
 use Rattle.geometry.specs.declared.funnel.FunnelPlan.{FunnelPlan}
-use Rattle.funnel.specs.declared.table.FunnelTable.{FunnelTable}
 use Rattle.funnel.specs.Path.{level_start, primary_start, fallback_start}
-use Rattle.funnel.specs.Valid.{Valid}
 
 -- a part of w slots lies within a row of them
 pub part_room : (index count w : ℕ) → index < count → index * w + w ≤ count * w

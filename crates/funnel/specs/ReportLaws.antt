@@ -1,7 +1,7 @@
 -- What each public call on a funnel table reports, in 01's words: its refusals by name and in their order, then its values. Assumes nothing.
 use Rattle.std.specs.Prelude.{Bool, true, false, not, List, [], ◌∷◌, ◌≡◌, refl, ℕ, eqb, ltb, length}
 use Rattle.std.proofs.Common.{ap, sym, ◌∙◌}
-use Rattle.refusal.specs.Table.{name_of, Report, answered, refused}
+use Rattle.refusal.specs.Table.{name_of, answered, refused}
 use Rattle.refusal.specs.declared.Gate.{Gate}
 use Rattle.refusal.specs.declared.Gate.TheVariants as gate
 use Rattle.refusal.specs.declared.Name.TheVariants as name
@@ -15,17 +15,14 @@ use Rattle.geometry.specs.declared.config.Gated.TheVariants.{Passed, Refused}
 use Rattle.funnel.specs.declared.table.FunnelTable.{FunnelTable}
 use Rattle.funnel.specs.declared.table.OpenAnswer.{OpenAnswer}
 use Rattle.funnel.specs.declared.table.OpenAnswer.TheVariants as opened
-use Rattle.funnel.specs.declared.table.Search.{Search}
 use Rattle.funnel.specs.declared.table.Search.TheVariants as search
-use Rattle.funnel.specs.declared.table.Insertion.{Insertion}
 use Rattle.funnel.specs.declared.table.Insertion.TheVariants as insertion
-use Rattle.funnel.specs.declared.table.Placement.{Placement}
 use Rattle.funnel.specs.declared.table.Placement.TheVariants as placement
 use Rattle.funnel.specs.Ranked.{ranked, lengths}
 use Rattle.funnel.specs.Search.{find_of}
 use Rattle.funnel.specs.Insert.{insert_of, place_all_of}
-use Rattle.funnel.specs.Calls.{gate_then, limits_then, lengths_then, table_gate, open_gate, place_gate, Opens, search_by, search_answer_of}
-use Rattle.funnel.specs.Calls.{insert_gated, insert_answer_of, place_gated, place_answer_of}
+use Rattle.funnel.specs.Calls.{gate_then, limits_then, lengths_then, table_gate, open_gate, place_gate, Opens, search_answer_of}
+use Rattle.funnel.specs.Calls.{insert_answer_of, place_answer_of}
 use Rattle.funnel.specs.Calls.{place_values, open_report, searched_report, inserted_report, placed_report}
 
 -- ---- the gates: "Order: 1 to 7 by number"

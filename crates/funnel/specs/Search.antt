@@ -4,7 +4,7 @@ use Rattle.words.specs.declared.place.Place.{Place}
 use Rattle.funnel.specs.declared.table.FunnelTable.{FunnelTable}
 use Rattle.funnel.specs.declared.table.Search.{Search}
 use Rattle.funnel.specs.declared.table.Search.TheVariants.{Hit, Vacant, Full, Range}
-use Rattle.funnel.specs.Path.{Ending, full, refused, Path, slot_of, levels_from, path_of}
+use Rattle.funnel.specs.Path.{Ending, full, refused, Path, slot_of, path_of}
 
 -- "It stops at the identity or the first vacancy": what a reading tells, by whether the slot is vacant and whether its word is
 -- the identity; `later` is what the rest of the walk says

@@ -3,8 +3,8 @@ use Rattle.std.specs.Prelude.{Bool, get_or}
 use Rattle.std.proofs.Math.Bool.{true, false}
 use mathlib.Core.List.{List, [], ◌∷◌, ◌++◌}
 use Rattle.std.proofs.Math.Path.{◌≡◌, refl, ap}
-use Rattle.std.proofs.Common.{sym, subst, ◌∙◌, length-append}
-use Prim.Native.Nat.{ℕ, zero, suc, ◌+◌, ◌-◌, ◌≤◌, ◌<◌}
+use Rattle.std.proofs.Common.{sym, subst, ◌∙◌}
+use Prim.Native.Nat.{ℕ, suc, ◌+◌}
 use native.Mathlib.Omega.{arith}
 use Rattle.std.proofs.Math.ListN.{length}
 use Rattle.std.proofs.Math.Dec.{eqb}
@@ -16,7 +16,7 @@ use Rattle.funnel.specs.declared.table.Search.TheVariants.{Hit, Vacant, Full, Ra
 use Rattle.funnel.specs.Path.{Ending, full, refused, Path, slot_of, run, stopped, join_at, join}
 use Rattle.funnel.specs.Every.{Every}
 use Rattle.funnel.specs.EveryLaws.{every_middle}
-use Rattle.funnel.specs.Search.{look, end_of, walk_of, search_of, read_on, readings_of}
+use Rattle.funnel.specs.Search.{look, walk_of, search_of}
 
 -- a search goes on along a second path where the first had no vacancy
 unfoldable pub resume : (words flags : List ℕ) (identity : ℕ) → Path → Search → Search

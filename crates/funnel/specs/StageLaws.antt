@@ -1,8 +1,8 @@
 -- The stages of a search as loops make them: what is left of a stage gives what the whole gives. Assumes nothing.
-use Rattle.std.specs.Prelude.{List, [], ◌∷◌, ◌≡◌, refl, length, get_or}
+use Rattle.std.specs.Prelude.{List, [], ◌∷◌, ◌≡◌, get_or}
 use Rattle.std.proofs.Common.{ap, ◌∙◌}
 use Rattle.std.proofs.Math.Path.{sym}
-use Prim.Native.Nat.{ℕ, zero, suc, ◌+◌, ◌*◌, ◌-◌, ◌≤◌, ◌<◌}
+use Prim.Native.Nat.{ℕ, suc, ◌+◌, ◌*◌, ◌-◌, ◌≤◌, ◌<◌}
 use native.Mathlib.Omega.{arith}
 use Rattle.words.specs.declared.place.Place.{Place}
 use Rattle.words.specs.declared.place.Place.TheVariants as place
@@ -17,7 +17,7 @@ use Rattle.probe.specs.Range.{domain_draw_of, funnel_draw_of}
 use Rattle.probe.specs.RangeLaws.{funnel_core, domain_draw_index}
 use Rattle.funnel.specs.declared.table.Search.{Search}
 use Rattle.funnel.specs.declared.table.Search.TheVariants.{Hit, Vacant, Full, Range}
-use Rattle.funnel.specs.Path.{Path, slot_of, run, stopped, join, sampled, bucket_from, level_start, levels_from, primary_from, pairs_from, fallback_of, path_of, primary_start, fallback_start}
+use Rattle.funnel.specs.Path.{Path, slot_of, run, join, sampled, bucket_from, level_start, levels_from, primary_from, pairs_from, fallback_of}
 use Rattle.funnel.specs.PathLaws.{bucket_length}
 use Rattle.funnel.specs.Search.{search_of}
 use Rattle.funnel.specs.Valid.{Keyed}

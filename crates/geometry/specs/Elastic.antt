@@ -1,5 +1,5 @@
 -- The layout of an elastic table: the lengths of its levels and the quotas of its batches. Assumes nothing.
-use Rattle.std.specs.Prelude.{List, [], ◌∷◌, ℕ, zero, suc, ◌+◌, ◌-◌, ◌*◌, ◌/◌, ◌^◌, ◌≤◌, ◌<◌, min, get_or, take, eqb, ltb, Bool, true, false}
+use Rattle.std.specs.Prelude.{List, [], ◌∷◌, ℕ, zero, suc, ◌+◌, ◌-◌, ◌/◌, ◌^◌, ◌≤◌, ◌<◌, min, get_or, take, eqb, ltb, Bool, true, false}
 use Rattle.words.specs.Log.{ceil_log2}
 use Rattle.words.specs.Pick.{pick}
 use Rattle.refusal.specs.Table.{name_of, Report, answered, refused}

@@ -1,5 +1,5 @@
 -- Laws of the elastic layout. Assumes nothing.
-use Rattle.std.specs.Prelude.{◌≡◌, refl, List, [], ◌∷◌, ◌++◌, length, take, drop, Bool, true, false, eqb, ltb}
+use Rattle.std.specs.Prelude.{◌≡◌, refl, List, [], ◌∷◌, ◌++◌, length, take, Bool, true, false, eqb, ltb}
 use Rattle.std.proofs.Math.Path.{ap, sym}
 use Rattle.std.proofs.Common.{◌∙◌, pow-suc, div-le_self, le-div_iff_mul-le, lt_of_not-le, mul-le-mul_left, mul_comm, add-mul, div-lt_iff_lt-mul, pow_mono, eq-eqb, ne_eqb, eqb-true, lt-ltb, le-ltb, ltb-true, ltb-false}
 use Prim.Native.Nat.{ℕ, zero, suc, ◌+◌, ◌-◌, ◌*◌, ◌/◌, ◌^◌, ◌≤◌, ◌<◌, min}
@@ -12,13 +12,11 @@ use Rattle.words.specs.Log.{ceil_log2, first_from, CeilLog2}
 use Rattle.words.specs.Pick.{pick}
 use Rattle.words.specs.LogLaws.{log_leading, log_computed}
 use Rattle.geometry.specs.Config.{Configured, config_gate, maximum}
-use Rattle.std.proofs.lemmas.Bool.{eqb-false}
 use Rattle.refusal.specs.declared.Gate.{Gate}
-use Rattle.geometry.specs.declared.config.Gated.{Gated}
 use Rattle.geometry.specs.declared.config.Gated.TheVariants.{Passed, Refused}
 use Rattle.geometry.specs.declared.elastic.ElasticPlanned.TheVariants as planned
 use Rattle.geometry.specs.declared.elastic.ElasticPlan.{ElasticPlan}
-use Rattle.geometry.specs.Elastic.{is_plan_of, plan_of, both, batch_from, batch_of, IsBatch, laid, lay_by, elastic_plan_of, level_length, split, levels_of, lengths_of, ceil_three_quarters, next_length, next_quota, later_quotas, uncut_quotas, cut, quotas_of, padded, total, length_at, offset_at}
+use Rattle.geometry.specs.Elastic.{is_plan_of, both, batch_from, batch_of, IsBatch, laid, lay_by, elastic_plan_of, level_length, split, levels_of, lengths_of, ceil_three_quarters, next_length, next_quota, later_quotas, uncut_quotas, cut, quotas_of, padded, total, length_at, offset_at}
 
 -- ---- examples: the table of 8 slots at e 1, and the smallest
 

@@ -9,10 +9,9 @@ use Rattle.refusal.specs.declared.Name.TheVariants as name
 use Rattle.words.specs.Pick.{pick}
 use Rattle.geometry.specs.declared.config.Gated.{Gated}
 use Rattle.geometry.specs.declared.config.Gated.TheVariants.{Passed}
-use Rattle.geometry.specs.declared.elastic.ElasticPlanned.TheVariants as elastic
 use Rattle.geometry.specs.declared.funnel.FunnelPlan.{FunnelPlan}
 use Rattle.geometry.specs.declared.funnel.FunnelPlanned.TheVariants as funnel
-use Rattle.geometry.specs.Config.{refuse_if, config_then, config_gate, gated_report, maximum}
+use Rattle.geometry.specs.Config.{refuse_if, config_then, gated_report, maximum}
 use Rattle.geometry.specs.Elastic.{levels_of, lay_by, elastic_plan_of, planned_report as elasticReport}
 use Rattle.geometry.specs.Funnel.{IsPlan}
 use Rattle.geometry.specs.FunnelGate.{has_layout, funnel_gate, Planned, planned_report}

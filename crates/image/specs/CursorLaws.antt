@@ -8,7 +8,7 @@ use Rattle.words.specs.Bytes.{num_at}
 use Rattle.words.specs.Pick.{pick}
 use Rattle.image.specs.Format.{Entry, entry_size, fields}
 use Rattle.image.specs.Reading.{low_after, entries_at, rising, floor_after, Seen, told, right_content}
-use Rattle.image.specs.Cursor.{cursor, cursor_of, rise_of, content_of, took_of}
+use Rattle.image.specs.Cursor.{cursor_of, rise_of, content_of, took_of}
 use Rattle.image.specs.TestLaws.{cases}
 use Rattle.image.specs.declared.reader.Content.TheVariants.{Off, Right}
 use Rattle.image.specs.declared.reader.Cursor.{Cursor}

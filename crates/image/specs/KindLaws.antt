@@ -1,14 +1,14 @@
 -- What a right tag and a right length are: the format's kinds, one by one. Assumes nothing.
-use Rattle.std.specs.Prelude.{◌≡◌, refl, Bool, true, false, List, [], eqb, length, get_or, drop}
+use Rattle.std.specs.Prelude.{◌≡◌, refl, Bool, true, false, List, eqb, length, drop}
 use Rattle.std.proofs.Math.Path.{sym}
 use Rattle.std.proofs.Common.{◌∙◌, drop_of_length-le, drop-cons}
 use Prim.Native.Nat.{ℕ, zero, suc, ◌+◌, ◌*◌, ◌/◌, ◌%◌, ◌<◌, ◌≤◌}
 use native.Mathlib.Omega.{arith}
-use borrow.Author.Tests.{eq-eqb, ne_eqb, eqb-true, eqb-false, le-leb, lt-leb}
+use borrow.Author.Tests.{eq-eqb, ne_eqb, eqb-true, le-leb, lt-leb}
 use Rattle.words.specs.Pick.{pick}
 use Rattle.image.specs.Format.{entry_size, field_bytes, label_most, fields, none}
 use Rattle.image.specs.Reading.{between, rank_of, may_come, right_tag, kind_at, fits, right_length, low_behind, low_after}
-use Rattle.image.specs.TestLaws.{cases, not_both, between_facts, between_is}
+use Rattle.image.specs.TestLaws.{cases, not_both, between_facts}
 use Rattle.image.specs.declared.field.Kind.{Kind}
 
 -- ---- the table

@@ -1,9 +1,9 @@
 -- A right image, field by field: each is right, and what is read after it is right. Assumes nothing.
-use Rattle.std.specs.Prelude.{◌≡◌, refl, true, false, List, ◌++◌, length, eqb, ltb}
+use Rattle.std.specs.Prelude.{◌≡◌, refl, true, List, ◌++◌, length, eqb, ltb}
 use Rattle.std.proofs.Common.{ap, sym, ◌∙◌}
-use Prim.Native.Nat.{ℕ, zero, suc, ◌+◌, ◌-◌, ◌/◌, ◌<◌, ◌≤◌}
+use Prim.Native.Nat.{ℕ, zero, suc, ◌+◌, ◌-◌, ◌/◌, ◌≤◌}
 use native.Mathlib.Omega.{arith}
-use borrow.Author.Tests.{eqb-true, eqb-false, eq-eqb, ne_eqb, ltb-true, ltb-false}
+use borrow.Author.Tests.{eqb-true, eqb-false, eq-eqb, ne_eqb, ltb-false}
 use Rattle.words.specs.Pick.{pick}
 use Rattle.image.specs.Format.{entry_size, fields}
 use Rattle.image.specs.FrameLaws.{Framing, framing}

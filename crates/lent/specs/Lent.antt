@@ -1,5 +1,5 @@
 -- Words lent as little-endian bytes, eight to a word. Assumes nothing.
-use Rattle.std.specs.Prelude.{Bool, true, false, List, [], ◌∷◌, ◌++◌, ℕ, zero, suc, ◌+◌, ◌*◌, ◌/◌, ◌%◌, eqb, length}
+use Rattle.std.specs.Prelude.{Bool, true, false, List, [], ◌∷◌, ◌++◌, ℕ, zero, suc, ◌+◌, ◌/◌, ◌%◌, eqb, length}
 use Rattle.words.specs.Bytes.{bytes_of, num_at}
 use Rattle.words.specs.Pick.{pick}
 

@@ -1,7 +1,7 @@
 -- Laws of the reduction: one word at a time, the bounds of a draw, and the answers of the bare reductions in turn. Assumes nothing.
 use Rattle.std.specs.Prelude.{◌≡◌, ℕ, zero, suc, ◌+◌, ◌-◌, ◌*◌, ◌/◌, ◌%◌, ◌^◌, ◌<◌, ◌≤◌, Bool, true, false, leb, length, nat_le, slice_index, refl}
 use Rattle.std.proofs.Math.Path.{sym, ap}
-use Rattle.std.proofs.Common.{subst, ◌∙◌, mod-lt, mul-lt-mul_of_pos_right}
+use Rattle.std.proofs.Common.{◌∙◌, mod-lt, mul-lt-mul_of_pos_right}
 use native.Mathlib.Omega.{arith}
 use borrow.Author.Tests.{eq-eqb, ne_eqb, lt-ltb, le-ltb, le-leb, lt-leb}
 use Rattle.refusal.specs.declared.Draw.{Draw}

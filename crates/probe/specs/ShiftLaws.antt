@@ -8,7 +8,6 @@ use Rattle.std.proofs.Math.Pow.{low}
 use Rattle.probe.specs.Word.{word_of}
 use Rattle.probe.specs.WordLaws.{word_below}
 use Rattle.probe.specs.Range.{words_at, reduce_of, draw_of}
-use Rattle.probe.specs.declared.range.Trial.{Trial}
 use Rattle.probe.specs.declared.range.Trial.TheVariants.{Index}
 
 -- ---- 2^k values

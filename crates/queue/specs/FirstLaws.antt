@@ -1,6 +1,6 @@
 -- Laws of the smallest number that passes a test. Assumes nothing.
 use Rattle.std.specs.Prelude.{Bool, true, false, ◌≡◌, refl, ℕ, zero, suc, ◌+◌, ◌≤◌, ◌<◌}
-use Rattle.std.proofs.Common.{⊎_elim, ap, sym, ◌∙◌, eq-or-lt_of_le, arith}
+use Rattle.std.proofs.Common.{⊎_elim, ap, ◌∙◌, eq-or-lt_of_le, arith}
 use Rattle.words.specs.Pick.{pick}
 use Rattle.queue.specs.declared.scan.Smallest.TheVariants.{At, Nothing}
 use Rattle.queue.specs.Queue.{first_in, Found}

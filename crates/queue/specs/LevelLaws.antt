@@ -2,7 +2,7 @@
 use Rattle.std.specs.Prelude.{Bool, true, false, List, ◌≡◌, refl, ℕ, ◌+◌, ◌*◌, ◌-◌, ◌/◌, ◌≤◌, ◌<◌, length, get_or, set, eqb, ltb}
 use Rattle.std.proofs.Common.{ap, sym, ◌∙◌, arith, length-set, get_or-set_same, get_or-set_other, eqb-true, ltb-true, ltb-false}
 use Rattle.std.proofs.lemmas.Bool.{eqb-false}
-use Rattle.queue.specs.Level.{groups, IsClear, IsClearGroup, Over, Nearly, Lowered, Settled, FirstSet, GroupEnd, InGroup, Wiped}
+use Rattle.queue.specs.Level.{groups, IsClear, Over, Nearly, Lowered, Settled, FirstSet, GroupEnd, InGroup, Wiped}
 
 -- by a test's two results
 cases : {P : Type 0} (x : Bool) → (x ≡ true → P) → (x ≡ false → P) → P

@@ -1,10 +1,10 @@
 -- Laws of a queue: how each call makes it. Assumes nothing.
-use Rattle.std.specs.Prelude.{Bool, true, false, not, List, ◌≡◌, refl, ℕ, ◌+◌, ◌*◌, ◌-◌, ◌/◌, ◌≤◌, ◌<◌, length, get_or, set, eqb}
-use Rattle.std.proofs.Common.{ap, sym, ◌∙◌, arith, length-set, get_or-set_same, get_or-set_other, eq-eqb, ne_eqb}
+use Rattle.std.specs.Prelude.{true, false, List, ◌≡◌, refl, ℕ, ◌+◌, ◌-◌, ◌/◌, ◌≤◌, ◌<◌, length, get_or, set}
+use Rattle.std.proofs.Common.{sym, ◌∙◌, arith, length-set, get_or-set_same, get_or-set_other, eq-eqb, ne_eqb}
 use Rattle.queue.specs.declared.scan.Smallest.TheVariants.{At, Nothing}
-use Rattle.queue.specs.Level.{groups, IsClear, Over, Nearly, Lowered, Settled, FirstSet, InGroup, Wiped}
+use Rattle.queue.specs.Level.{groups, IsClear, Over, Nearly, Settled, FirstSet, InGroup, Wiped}
 use Rattle.queue.specs.LevelLaws.{over_kept, over_raised, over_lowered, cleared, under_set, under_clear, under_none}
-use Rattle.queue.specs.Queue.{room, holds, Queue, Kept, Emptied, Changed, first_in}
+use Rattle.queue.specs.Queue.{room, holds, Queue, Emptied, Changed, first_in}
 use Rattle.queue.specs.FirstLaws.{first_at, first_all}
 
 -- ---- what a flag says

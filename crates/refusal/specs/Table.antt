@@ -1,5 +1,5 @@
 -- The table of refusals: each name's number, and what an answer reports. Assumes nothing.
-use Rattle.std.specs.Prelude.{List, [], ◌∷◌, ℕ}
+use Rattle.std.specs.Prelude.{List, ℕ}
 use Rattle.refusal.specs.declared.Name.{Name}
 use Rattle.refusal.specs.declared.Name.TheVariants as name
 use Rattle.refusal.specs.declared.Gate.{Gate}

@@ -1,5 +1,4 @@
 use mathlib.Core.Path.{sym, ◌∙◌}
-use Prim.Native.Nat.{◌-◌}
 use native.Mathlib.Omega.{arith}
 use Rattle.elastic.specs.ReadingLaws.{scanned_start, scanned_here, scanned_on, scanned_end}
 use Rattle.elastic.proofs.route.first_holding.Goals as goal

@@ -1,5 +1,4 @@
 use mathlib.Core.Path.{◌≡◌, ◌∙◌}
-use Prim.Native.Nat.{◌-◌}
 use native.Mathlib.Omega.{arith}
 use Rattle.elastic.specs.ReadingLaws.{without_start, without_more, alike_most, alike_none}
 use Rattle.elastic.proofs.route.hits.Goals as goal

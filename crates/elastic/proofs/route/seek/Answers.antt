@@ -1,5 +1,4 @@
 use mathlib.Core.Path.{sym, ◌∙◌}
-use Prim.Native.Nat.{◌-◌}
 use native.Mathlib.Omega.{arith}
 use Rattle.elastic.specs.ReadingLaws.{sought_start, sought_refused, sought_vacant, sought_on, sought_end, reading_read}
 use Rattle.elastic.proofs.route.seek.Goals as goal

@@ -1,5 +1,3 @@
-use mathlib.Core.Bool.{true, false}
-use Prim.Native.Nat.{◌-◌}
 use native.Mathlib.Omega.{arith}
 use Rattle.geometry.specs.ElasticLaws.{length_fits}
 use Rattle.elastic.proofs.CountsFit.{counting_start, counting_over, counting_above, counting_step, counting_end}

@@ -1,4 +1,3 @@
-use Prim.Native.Nat.{◌-◌}
 use mathlib.Core.Path.{refl, sym, ◌∙◌}
 use native.Mathlib.Omega.{arith}
 use Rattle.funnel.specs.StopLaws.{passing_none, passing_vacant, passing_hit, passing_more, passing_end, passing_two}

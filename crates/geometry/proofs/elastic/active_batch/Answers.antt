@@ -1,4 +1,3 @@
-use Prim.Native.Nat.{◌-◌}
 use native.Mathlib.Omega.{arith}
 use Rattle.geometry.specs.ElasticLaws.{length_fits, quota_fits}
 use Rattle.geometry.proofs.ActiveBatch.{looking_start, looking_found, looking_step, looking_end}

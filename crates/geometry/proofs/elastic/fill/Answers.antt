@@ -1,5 +1,4 @@
 use mathlib.Core.Path.{sym, ◌∙◌}
-use Prim.Native.Nat.{◌-◌}
 use native.Mathlib.Omega.{arith}
 use Rattle.geometry.specs.ElasticLaws.{length_fits, quota_fits}
 use Rattle.geometry.proofs.Fill.{filling_start, filling_step, filled}

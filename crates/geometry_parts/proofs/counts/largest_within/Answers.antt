@@ -1,5 +1,4 @@
 use mathlib.Core.Path.{sym, ◌∙◌}
-use Prim.Native.Nat.{◌-◌}
 use native.Mathlib.Omega.{arith}
 use Rattle.geometry.specs.FilledLaws.{within_two, within_start, within_right, within_left, within_end}
 use Rattle.geometry_parts.proofs.counts.largest_within.Goals as goal

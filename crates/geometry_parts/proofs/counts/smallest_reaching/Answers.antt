@@ -1,5 +1,4 @@
 use mathlib.Core.Path.{sym, ◌∙◌}
-use Prim.Native.Nat.{◌-◌}
 use native.Mathlib.Omega.{arith}
 use Rattle.geometry.specs.FilledLaws.{reach_start, reach_left, reach_right, reach_end}
 use Rattle.geometry_parts.proofs.counts.smallest_reaching.Goals as goal

@@ -1,5 +1,5 @@
 use mathlib.Core.Path.{refl}
-use Prim.Native.Nat.{◌-◌, ◌*◌}
+use Prim.Native.Nat.{◌*◌}
 use native.Mathlib.Omega.{arith}
 use Rattle.geometry.specs.SpecialLaws.{found_low, found_here, found_short, found_none, tried_more}
 use native.Mathlib.Nat.{zero-mul}

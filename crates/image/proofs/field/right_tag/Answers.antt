@@ -2,7 +2,6 @@ use Rattle.image.specs.Format.{fields}
 use Rattle.image.specs.KindLaws.{coming_none, coming_here, coming_must, coming_more, coming_end}
 use mathlib.Core.Path.{sym, ◌∙◌, ap}
 use native.Mathlib.Omega.{arith}
-use Prim.Native.Nat.{◌-◌}
 use Rattle.image.specs.declared.field.Kind.{Kind}
 use Rattle.image.proofs.field.right_tag.Goals as goal
 

@@ -3,7 +3,6 @@ use Rattle.image.specs.CursorLaws.{took_at}
 use Rattle.image.specs.Cursor.{outcome_of}
 use native.Mathlib.Omega.{arith}
 use mathlib.Core.Path.{sym, ◌∙◌, ap}
-use Prim.Native.Nat.{◌-◌}
 use Rattle.image.proofs.reader.read.Goals as goal
 
 pub loop-place-init : goal.loop-place-init

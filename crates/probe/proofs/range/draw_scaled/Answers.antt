@@ -1,4 +1,4 @@
-use Rattle.std.proofs.Common.{◌-◌, arith}
+use Rattle.std.proofs.Common.{arith}
 use Rattle.probe.specs.RangeLaws.{drawing_none, drawing_end, drawing_accept, drawing_more}
 use Rattle.probe.proofs.range.draw_scaled.Goals as goal
 

@@ -1,4 +1,3 @@
-use Prim.Native.Nat.{◌-◌}
 use native.Mathlib.Omega.{arith}
 use Rattle.queue.specs.LevelLaws.{passed_none, passed_more, passed_set, passed_end}
 use Rattle.queue.proofs.scan.first_set.Goals as goal
