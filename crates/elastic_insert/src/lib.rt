@@ -4,4 +4,6 @@
 //
 // specs/Table.antt and TableLaws.antt say what holds of a table over time.
 
+#![tactic(auto)]
+
 pub mod insert;

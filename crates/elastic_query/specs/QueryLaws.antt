@@ -1,8 +1,8 @@
 -- Laws of the query: the walk over all positions is that over the mapped ones, node by node. Assumes nothing.
-use Rattle.std.specs.Prelude.{Bool, true, false, List, ◌≡◌, refl, ltb, leb, eqb, length}
-use Rattle.std.proofs.Common.{ap, subst, ◌∙◌, pow-suc, mul-le-mul_right, mul-le-mul_left, pow_pos, pow_mono, lt-ltb, le-ltb, le-leb, eq-eqb, ne_eqb}
+use Rattle.std.specs.Prelude.{Bool, true, false, List, ◌≡◌, refl, eqb, length}
+use Rattle.std.proofs.Common.{ap, ◌∙◌, pow-suc, mul-le-mul_left, pow_mono, le-leb}
 use Rattle.std.proofs.Math.Path.{sym}
-use Prim.Native.Nat.{ℕ, zero, suc, ◌+◌, ◌*◌, ◌-◌, ◌/◌, ◌%◌, ◌^◌, ◌≤◌, ◌<◌, min}
+use Prim.Native.Nat.{ℕ, zero, suc, ◌+◌, ◌*◌, ◌-◌, ◌/◌, ◌^◌, ◌≤◌, ◌<◌}
 use Rattle.std.proofs.Math.Nat.{pow-zero, zero-add, lt_of_not-le}
 use native.Mathlib.Omega.{arith}
 use Rattle.std.proofs.Math.Decide.{dec_le}
@@ -11,14 +11,13 @@ use Rattle.refusal.specs.declared.RangeRefusal.{RangeRefusal}
 use Rattle.refusal.specs.declared.Gate.{Gate}
 use Rattle.words.specs.Pick.{pick}
 use Rattle.geometry.specs.declared.config.Gated.TheVariants as gated
-use Rattle.geometry.specs.Elastic.{levels_of}
 use Rattle.geometry.specs.ElasticLaws.{levels_facts}
 use Rattle.elastic_probe.specs.Length.{bits_of, length_in}
 use Rattle.elastic_probe.specs.LengthLaws.{Top}
-use Rattle.elastic_probe.specs.Phi.{pairs, Coords, gap, at, start, coords_of}
+use Rattle.elastic_probe.specs.Phi.{pairs, gap, at, start, coords_of}
 use Rattle.elastic_probe.specs.OrderLaws.{pairs_mono}
 use Rattle.elastic_probe.specs.PhiLaws.{top_half, top_zero}
-use Rattle.elastic_probe.specs.TreeLaws.{Node, node_mapped, node_empty, node_root, node_pos, node_j, Next}
+use Rattle.elastic_probe.specs.TreeLaws.{Node, node_mapped, node_empty, node_root, node_pos, Next}
 use Rattle.probe.specs.Word.{elastic_key_of}
 use Rattle.elastic.specs.declared.state.State.{State}
 use Rattle.elastic.specs.declared.route.Reading.{Reading}
@@ -29,8 +28,8 @@ use Rattle.elastic_query.specs.declared.query.Scan.{Scan}
 use Rattle.elastic_query.specs.declared.query.Scan.TheVariants as scan
 use Rattle.elastic.specs.State.{gate_of, Valid}
 use Rattle.elastic.specs.Reading.{reading_of, holds_at, Probed}
-use Rattle.elastic_query.specs.Query.{within, found_at, Tally, nothing, counted, walk_by, walk_of, positionsOf, look_of, query_by, query_of}
-use Rattle.elastic_query.specs.QuerySteps.{up_to, from, charged, Missed, Fine, scan_told, IsScanFine, Scanned, Queried, Scanning, Visiting, end_of}
+use Rattle.elastic_query.specs.Query.{within, walk_of, positionsOf, look_of, query_of}
+use Rattle.elastic_query.specs.QuerySteps.{from, charged, Missed, Fine, Scanned, Queried, Scanning, Visiting, end_of}
 
 -- ---- the walk, position by position
 

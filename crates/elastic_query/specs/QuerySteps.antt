@@ -2,12 +2,11 @@
 use Rattle.std.specs.Prelude.{Bool, true, false, ◌≡◌, ℕ, ◌+◌, ◌-◌, ◌*◌, ◌/◌, ◌≤◌, ◌<◌, min, eqb}
 use Rattle.words.specs.Pick.{pick}
 use Rattle.geometry.specs.Elastic.{levels_of}
-use Rattle.elastic_probe.specs.Phi.{Coords, at, coords_of}
+use Rattle.elastic_probe.specs.Phi.{at, coords_of}
 use Rattle.elastic_probe.specs.TreeLaws.{Node}
 use Rattle.elastic.specs.declared.route.Reading.{Reading}
 use Rattle.elastic.specs.declared.route.Reading.TheVariants as reading
 use Rattle.elastic_query.specs.declared.query.QueryAnswer.{QueryAnswer}
-use Rattle.elastic_query.specs.declared.query.QueryAnswer.TheVariants as answer
 use Rattle.elastic_query.specs.declared.query.Scan.{Scan}
 use Rattle.elastic_query.specs.declared.query.Scan.TheVariants as scan
 use Rattle.elastic_query.specs.Query.{Tally, within, walk_of}

@@ -1,12 +1,9 @@
 -- The insertion: the choice of a slot, and what is written. Assumes nothing.
-use Rattle.std.specs.Prelude.{Bool, true, false, List, [], ◌∷◌, ◌++◌, ℕ, zero, suc, ◌+◌, ◌-◌, ◌*◌, ◌/◌, ◌^◌, ◌≤◌, ◌<◌, eqb, ltb, leb, length, get_or, set}
+use Rattle.std.specs.Prelude.{Bool, true, false, List, [], ◌∷◌, ◌++◌, ℕ, zero, suc, ◌+◌, ◌-◌, ◌/◌, ◌^◌, ◌≤◌, ◌<◌, ltb, leb, length, get_or, set}
 use Rattle.refusal.specs.Table.{name_of, Report, answered, refused}
 use Rattle.refusal.specs.declared.Name.TheVariants as name
 use Rattle.words.specs.Pick.{pick}
-use Rattle.words.specs.declared.place.GlobalSlot.{GlobalSlot}
-use Rattle.words.specs.declared.place.LevelSlot.{LevelSlot}
 use Rattle.words.specs.declared.place.LogicalProbe.{LogicalProbe}
-use Rattle.words.specs.declared.place.PaperProbe.{PaperProbe}
 use Rattle.geometry.specs.declared.config.Gated.{Gated}
 use Rattle.geometry.specs.declared.config.Gated.TheVariants as gated
 use Rattle.geometry.specs.Elastic.{length_at, offset_at, batch_of}

@@ -1,16 +1,15 @@
 -- Laws of the insertion. Assumes nothing.
-use Rattle.std.specs.Prelude.{Bool, true, false, List, [], ◌∷◌, ℕ, zero, suc, ◌+◌, ◌-◌, ◌*◌, ◌/◌, ◌^◌, ◌≤◌, ◌<◌, eqb, ltb, leb, length, get_or, set}
+use Rattle.std.specs.Prelude.{Bool, true, false, List, ℕ, zero, suc, ◌+◌, ◌-◌, ◌*◌, ◌/◌, ◌^◌, ◌≤◌, ◌<◌, leb, length, get_or, set}
 use Rattle.std.proofs.Math.Path.{◌≡◌, refl, sym}
 use Rattle.std.proofs.Common.{ap, ◌∙◌, mul-le-mul, arith}
-use borrow.Author.Tests.{eq-eqb, ne_eqb, lt-ltb, le-ltb, le-leb, lt-leb, eqb-true, eqb-false, leb-true, leb-false}
+use borrow.Author.Tests.{ne_eqb, lt-ltb, le-ltb, le-leb, lt-leb, leb-false}
 use Rattle.refusal.specs.declared.RangeRefusal.{RangeRefusal}
 use Rattle.refusal.specs.declared.Gate.{Gate}
 use Rattle.words.specs.declared.place.LogicalProbe.{LogicalProbe}
 use Rattle.words.specs.Pick.{pick}
-use Rattle.geometry.specs.declared.config.Gated.{Gated}
 use Rattle.geometry.specs.declared.config.Gated.TheVariants as gated
-use Rattle.geometry.specs.Config.{Configured, maximum}
-use Rattle.geometry.specs.Elastic.{levels_of, level_length, lengths_of, length_at, offset_at, batch_from, batch_of, quotas_of, cut, later_quotas, uncut_quotas, split}
+use Rattle.geometry.specs.Config.{maximum}
+use Rattle.geometry.specs.Elastic.{levels_of, level_length, lengths_of, length_at, offset_at, batch_from, batch_of, quotas_of, cut, later_quotas, split}
 use Rattle.geometry.specs.ElasticLaws.{levels_facts, uncut_later, batch_is}
 use Rattle.elastic_probe.specs.Budget.{probes_of, budget_of}
 use Rattle.elastic_probe.specs.BudgetLaws.{probes_most, budget_in_table}
@@ -30,17 +29,16 @@ use Rattle.elastic.specs.declared.route.Located.{Located}
 use Rattle.elastic.specs.declared.route.Located.TheVariants as located
 use Rattle.elastic_steps.specs.declared.answer.Case.{Case}
 use Rattle.elastic_steps.specs.declared.answer.Case.TheVariants.{Batch0, Case1, Case2, Case3}
-use Rattle.elastic_steps.specs.declared.answer.Insertion.{Insertion}
 use Rattle.elastic_steps.specs.declared.answer.InsertRefusal.{InsertRefusal}
 use Rattle.elastic_steps.specs.declared.answer.InsertRefusal.TheVariants as refusal
 use Rattle.elastic_steps.specs.declared.answer.InsertAnswer.{InsertAnswer}
 use Rattle.elastic_steps.specs.declared.answer.InsertAnswer.TheVariants as answer
 use Rattle.elastic_steps.specs.declared.answer.Chosen.{Chosen}
 use Rattle.elastic_steps.specs.declared.answer.Chosen.TheVariants as chosen
-use Rattle.elastic.specs.State.{gate_of, LimitsFacts, Valid, Searching, Pairing, Affordable}
+use Rattle.elastic.specs.State.{gate_of, Valid, Searching, Pairing, Affordable}
 use Rattle.elastic.specs.Reading.{seek_of, first_of, Probed, Seekable}
-use Rattle.elastic.specs.ReadingLaws.{probed_offset, probed_few, probed_length, probed_within, Vacancy, seek_vacant, IsFirst, first_is}
-use Rattle.elastic_steps.specs.Insert.{uniform_by, uniform_of, budgeted_by, budgeted_of, free_at, current_low, next_low, pair_by, pair_of, steps_of, choose_by, choose_of, Done, done, counted, added_to, Storable, taken_at, insertion_of, place_by, insert_by, insert_of}
+use Rattle.elastic.specs.ReadingLaws.{probed_offset, probed_few, probed_length, probed_within, seek_vacant}
+use Rattle.elastic_steps.specs.Insert.{uniform_by, uniform_of, budgeted_by, budgeted_of, free_at, pair_by, pair_of, steps_of, choose_by, choose_of, Done, done, counted, added_to, Storable, taken_at, place_by, insert_of}
 
 -- ---- what is asked of the searches
 

@@ -3,4 +3,6 @@
 //
 //     search.rt     the search along all of a path, in a valid table; the levels alone, told by the slot
 
+#![tactic(auto)]
+
 pub mod search;

@@ -1,10 +1,8 @@
 -- The definitions at a few numbers: the examples of the request, and a lower bound that is no layout. Assumes nothing.
-use Rattle.std.specs.Prelude.{◌≡◌, refl, ℕ, ◌+◌, ◌-◌, ◌*◌, ◌/◌, ◌^◌, ◌≤◌, ◌<◌, min, max}
-use Rattle.std.specs.Int.{◌∣◌}
+use Rattle.std.specs.Prelude.{ℕ, ◌-◌, ◌/◌, ◌≤◌}
 use Rattle.std.proofs.Math.Nat.{dvd-mul_right}
-use Rattle.std.proofs.Common.{le-div_iff_mul-le, arith}
+use Rattle.std.proofs.Common.{arith}
 use Rattle.words.specs.Log.{ceil_log2, first_from}
-use Rattle.geometry.specs.Config.{maximum}
 use Rattle.geometry.specs.Extreme.{IsLargest, IsSmallest}
 use Rattle.geometry.specs.Special.{loglog, special_least, special_most, SpecialLength}
 use Rattle.geometry.specs.Funnel.{Layout}

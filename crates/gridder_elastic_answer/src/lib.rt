@@ -10,4 +10,6 @@
 //
 // specs/Say.antt says what it holds.
 
+#![tactic(auto)]
+
 pub mod say;

@@ -11,4 +11,6 @@
 //
 // specs/State.antt says what it holds.
 
+#![tactic(auto)]
+
 pub mod state;

@@ -14,4 +14,6 @@
 //
 // specs/Rent.antt says what the call answers and leaves.
 
+#![tactic(auto)]
+
 pub mod rent;

@@ -1,6 +1,6 @@
 -- What is written to a state block is read back. Assumes nothing.
-use Rattle.std.specs.Prelude.{true, List, [], ◌∷◌, ◌++◌, ◌⊎◌, ◌≡◌, ℕ, zero, suc, ◌+◌, ◌*◌, ◌%◌, ◌^◌, ◌≤◌, ◌<◌, eqb, ltb, length, get_or, replicate}
-use Rattle.std.proofs.Common.{inl, inr, ap, sym, ◌∙◌, arith, ext_get_or, eq-eqb, lt-ltb}
+use Rattle.std.specs.Prelude.{true, List, [], ◌∷◌, ◌⊎◌, ◌≡◌, ℕ, zero, suc, ◌+◌, ◌*◌, ◌%◌, ◌^◌, ◌≤◌, ◌<◌, length, get_or, replicate}
+use Rattle.std.proofs.Common.{inr, sym, ◌∙◌, arith, ext_get_or, lt-ltb}
 use Rattle.std.proofs.Math.Path.{refl}
 use Rattle.std.proofs.lemmas.List.{length-replicate}
 use Rattle.std.proofs.lemmas.List.Edits.{sets}
@@ -9,7 +9,7 @@ use Rattle.words.specs.Bytes.{bytes_of, num_at}
 use Rattle.words.specs.BytesLaws.{sets_append, length_bytes, num_sets, num_stored}
 use Rattle.funnel.specs.declared.table.FunnelTable.{FunnelTable}
 use Rattle.lent.specs.Lent.{words_from, lent}
-use Rattle.lent.specs.LentLaws.{length_from, from_at, length_lent}
+use Rattle.lent.specs.LentLaws.{length_from, from_at}
 use Rattle.gridder_state.specs.State.{state_length, funnel_kind, counts_at, holds_funnel, plan_in, table_in, counts_in, table_words, funnel_block}
 use Rattle.gridder_state.specs.StateLaws.{holds_kind_lem}
 

@@ -1,5 +1,5 @@
 -- The state block: 2,048 bytes that hold a table's numbers, each a little-endian word of eight bytes. Assumes nothing.
-use Rattle.std.specs.Prelude.{Bool, false, List, [], ◌∷◌, ◌++◌, ℕ, ◌+◌, ◌*◌, ◌/◌, ◌%◌, eqb, ltb, length, replicate}
+use Rattle.std.specs.Prelude.{Bool, false, List, [], ◌∷◌, ℕ, eqb, ltb, length, replicate}
 use Rattle.std.proofs.lemmas.List.Edits.{sets}
 use Rattle.words.specs.Bytes.{bytes_of, num_at}
 use Rattle.words.specs.Pick.{pick}

@@ -1,4 +1,3 @@
-use Prim.Native.Nat.{◌-◌}
 use native.Mathlib.Omega.{arith}
 use Rattle.elastic_query.specs.QueryLaws.{turn_below, turn_visiting, going_start, going_ends, going_on, going_end}
 use Rattle.elastic_query.proofs.query.along.Goals as goal

@@ -1,4 +1,3 @@
-use Prim.Native.Nat.{◌-◌}
 use native.Mathlib.Omega.{arith}
 use Rattle.elastic_query.specs.QueryLaws.{walked_start, walked_end, walked_scanning, walked_ends, walked_on}
 use Rattle.elastic_query.proofs.query.descend.Goals as goal

@@ -1,5 +1,5 @@
 -- `geometry_funnel::counts_test::chain_holds` meets its contract. Assumes nothing.
-use Prim.Native.Nat.{◌-◌, ◌<◌}
+use Prim.Native.Nat.{◌<◌}
 use lib.ListN.{take}
 use Rattle.geometry.specs.WalkLaws.{From}
 use Rattle.geometry_funnel.proofs.counts_test.chain_holds.Given as goal

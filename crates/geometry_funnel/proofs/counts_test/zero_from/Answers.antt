@@ -1,4 +1,3 @@
-use Prim.Native.Nat.{◌-◌}
 use native.Mathlib.Omega.{arith}
 use Rattle.geometry.specs.ZeroLaws.{others_start, others_more, others_none}
 use Rattle.geometry_funnel.proofs.counts_test.zero_from.Goals as goal

@@ -1,4 +1,3 @@
-use Prim.Native.Nat.{◌-◌}
 use native.Mathlib.Omega.{arith}
 use Rattle.geometry.specs.PeriodLaws.{meeting_start, meeting_a, meeting_b, meeting_end, meeting_within, rows_small}
 use Rattle.geometry_funnel.proofs.special_test.special_period.Goals as goal

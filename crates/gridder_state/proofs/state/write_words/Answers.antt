@@ -1,5 +1,4 @@
 use mathlib.Core.Path.{refl, ◌∙◌}
-use Prim.Native.Nat.{◌-◌}
 use native.Mathlib.Omega.{arith}
 use Rattle.lent.specs.Lent.{lent}
 use Rattle.lent.specs.LentLaws.{storing_more, storing_all}

@@ -1,7 +1,6 @@
 use Rattle.image_writer.specs.DirtyLaws.{scan_none, scan_flag, scan_word, scan_vacant, scan_taken, scan_end}
 use mathlib.Core.Path.{sym, ◌∙◌}
 use native.Mathlib.Omega.{arith}
-use Prim.Native.Nat.{◌-◌}
 use Rattle.image_writer.proofs.dirty.scan_table.Goals as goal
 
 pub loop-s-init : goal.loop-s-init

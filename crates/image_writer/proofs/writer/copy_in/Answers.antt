@@ -1,6 +1,5 @@
 use Rattle.image_writer.specs.ImageLaws.{copying_none, copying_more, copying_end}
 use native.Mathlib.Omega.{arith}
-use Prim.Native.Nat.{◌-◌}
 use Rattle.image_writer.proofs.writer.copy_in.Goals as goal
 
 pub loop-i-init : goal.loop-i-init

@@ -1,6 +1,5 @@
 use Rattle.image_writer.specs.EntryLaws.{writing_none, writing_slot, writing_skip, writing_put, writing_end}
 use native.Mathlib.Omega.{arith}
-use Prim.Native.Nat.{◌-◌}
 use Rattle.image_writer.proofs.writer.write_entries.Goals as goal
 
 pub loop-left-init : goal.loop-left-init

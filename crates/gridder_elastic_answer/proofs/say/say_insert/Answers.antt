@@ -1,0 +1,12 @@
+-- `gridder_elastic_answer::say::say_insert` meets its contract. By the answer. Assumes nothing.
+use Rattle.gridder_elastic_answer.specs.SayLaws.{zeros_are, insert_says, insert_refuses}
+use Rattle.gridder_elastic_answer.proofs.say.say_insert.Goals as goal
+
+pub say_refusal-requires : goal.say_refusal-requires
+say_refusal-requires c = zeros_are _ _ c.requires c.clear_bytes.ensures
+
+pub returns-in-Inserted : goal.returns-in-Inserted
+returns-in-Inserted c = insert_says _ _ _ _ c.requires c.clear_bytes.ensures _ c.in-Inserted.is c.say_inserted.ensures
+
+pub returns-in-Refused : goal.returns-in-Refused
+returns-in-Refused c = insert_refuses _ _ _ _ c.requires c.clear_bytes.ensures _ _ c.in-Refused.is c.say_refusal.ensures
