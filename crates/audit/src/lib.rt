@@ -31,6 +31,8 @@
 //     specs/*Laws.antt     what the proofs cite; OrdinaryLaws: why the rising pass is right; SpecialLaws: why a verdict is final;
 //                          WaitsLaws: why no other than a candidate is ready
 
+#![tactic(auto)]
+
 pub mod restore;
 pub mod slots;
 pub mod verdict;

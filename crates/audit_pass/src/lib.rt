@@ -2,4 +2,6 @@
 //
 //     pass.rt   the two passes
 
+#![tactic(auto)]
+
 pub mod pass;

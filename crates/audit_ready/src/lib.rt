@@ -2,4 +2,6 @@
 //
 //     ready.rt   whether a slot is ready
 
+#![tactic(auto)]
+
 pub mod ready;

@@ -2,4 +2,6 @@
 //
 //     special.rt   the next special slot that is ready, again and again
 
+#![tactic(auto)]
+
 pub mod special;

@@ -136,8 +136,8 @@ never_schedule {st = st} {cs} {ws} {fs} r id h =
 pub answers_never : {n e seed : ℕ} {limits : Limits} {st : State} {cs ws fs : List ℕ} → Reached n e seed limits st cs ws fs
     → (ids : List ℕ) → Memᴰ (answer.Refused refusal.Schedule) (answers_of st cs ws fs ids) → ⊥
 unfolding answers_of
-answers_never r [] m = Memᴰ.not-nil m
+answers_never {st = st} {cs} {ws} {fs} r [] m = Memᴰ.not-nil m
 answers_never {st = st} {cs} {ws} {fs} r (id ∷ ids) m =
     let d = insert_of st cs ws fs id in
-    let on = answers_never (more st cs ws fs id d.answer d.st d.counts d.words d.flags r refl) ids in
+    let on = answers_never {st = d.st} {cs = d.counts} {ws = d.words} {fs = d.flags} (more st cs ws fs id d.answer d.st d.counts d.words d.flags r refl) ids in
     ⊎_elim (λ e. never_schedule r id (sym e)) on (Memᴰ.cases_cons m)

@@ -18,3 +18,5 @@
 //     Examples.antt        a state that a caller made up is still answered SCHEDULE: made_up_schedule
 //
 // Schedule.antt, Choice.antt, Lasting.antt and Lookup.antt have the definitions that these laws use.
+
+#![tactic(auto)]

@@ -3,4 +3,6 @@
 //
 //     insert.rt     insertion into a valid table
 
+#![tactic(auto)]
+
 pub mod insert;

@@ -3,4 +3,6 @@
 //
 //     place_all.rt  many insertions into a valid table
 
+#![tactic(auto)]
+
 pub mod place_all;

@@ -1,0 +1,32 @@
+use mathlib.Core.Path.{ap, sym}
+use Rattle.audit.specs.MarkedLaws.{cleared_n, marks_end}
+use Prim.Native.Nat.{◌-◌}
+use native.Mathlib.Omega.{arith}
+use mathlib.Core.Path.{◌∙◌}
+use lib.ListN.{length}
+use Rattle.audit.specs.MarkedLaws.{length_marks, marks_none, marks_more}
+use Rattle.audit.proofs.restore.restore.Goals as goal
+
+pub loop-k-init : goal.loop-k-init
+loop-k-init c = (omega arith, marks_none _ _ _ c.args.marks.now c.clear_bytes.ensures (sym (cleared_n _ c.args.marks.now c.clear_bytes.ensures)))
+
+pub word-slot-requires : goal.word-slot-requires
+word-slot-requires c = omega arith
+
+pub bounds-marks-slot : goal.bounds-marks-slot
+bounds-marks-slot c = let m = ap length c.loop-k.invariant.1 ∙ length_marks _ _ _ ∙ cleared_n _ c.args.marks.now c.clear_bytes.ensures in rw (c.word-slot.ensures, m) (c.requires.1 _ c.loop-k-test.true)
+
+pub overflow_add-k : goal.overflow_add-k
+overflow_add-k c = omega arith
+
+pub loop-k-smaller : goal.loop-k-smaller
+loop-k-smaller c = omega arith
+
+pub loop-k-preserved : goal.loop-k-preserved
+loop-k-preserved c = (omega arith, rw c.word-slot.ensures (marks_more _ _ _ _ c.loop-k.invariant.1))
+
+pub shape_of-marks : goal.shape_of-marks
+shape_of-marks c = ap length c.loop-k.invariant.1 ∙ length_marks _ _ _ ∙ cleared_n _ c.args.marks.now c.clear_bytes.ensures
+
+pub returns : goal.returns
+returns c = marks_end _ _ _ _ _ _ (cleared_n _ c.args.marks.now c.clear_bytes.ensures) (omega arith) c.loop-k.invariant.1
