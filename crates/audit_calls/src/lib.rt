@@ -5,4 +5,6 @@
 //
 // specs/Check.antt says what the check answers, its gate and its endings.
 
+#![tactic(auto)]
+
 pub mod check;

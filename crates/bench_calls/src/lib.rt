@@ -1,4 +1,7 @@
 // Calls for the measurements of bench/, on numbers and slices.
+
+#![tactic(auto)]
+
 mod elastics;
 mod funnels;
 mod images;

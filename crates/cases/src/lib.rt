@@ -5,3 +5,5 @@
 //     specs/FillLaws.antt          its opening and its insertions (case J)
 //     specs/CheckLaws.antt         its check (cases K, L and M)
 //     specs/FirstInsertLaws.antt   the first insertion into a fresh elastic table (cases H and I)
+
+#![tactic(auto)]

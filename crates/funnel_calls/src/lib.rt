@@ -3,4 +3,6 @@
 //
 //     calls.rt      the public calls: open, search, insert, place_all. Each tests the state, 1 to 7, and requires nothing
 
+#![tactic(auto)]
+
 pub mod calls;

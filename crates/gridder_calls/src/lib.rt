@@ -7,5 +7,7 @@
 //
 // specs/Calls.antt says what each call answers and leaves, specs/Enter.antt how one begins.
 
+#![tactic(auto)]
+
 pub mod enter;
 pub mod funnels;

@@ -7,4 +7,6 @@
 //
 // specs/Check.antt says what the call answers and leaves.
 
+#![tactic(auto)]
+
 pub mod call;

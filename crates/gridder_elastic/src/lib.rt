@@ -9,5 +9,7 @@
 //
 // specs/Calls.antt says what each call answers and leaves, specs/Enter.antt how one begins.
 
+#![tactic(auto)]
+
 pub mod calls;
 pub mod enter;

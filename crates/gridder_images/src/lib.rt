@@ -13,5 +13,7 @@
 //
 // specs/Say.antt says what the answer block holds, Calls.antt what each call answers and leaves.
 
+#![tactic(auto)]
+
 pub mod calls;
 pub mod say;

@@ -4,4 +4,6 @@
 //
 // specs/Open.antt says what the call answers and leaves.
 
+#![tactic(auto)]
+
 pub mod open;

@@ -5,4 +5,6 @@
 //
 // specs/Place.antt says what it answers and leaves.
 
+#![tactic(auto)]
+
 pub mod placing;

@@ -5,5 +5,7 @@
 //
 // The loader goes over an image twice. The first pass, the reader's, tests all and writes nothing; the second fills the buffers and tests nothing.
 
+#![tactic(auto)]
+
 pub mod calls;
 pub mod loader;

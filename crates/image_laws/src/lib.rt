@@ -11,3 +11,5 @@
 //                           the slot that DIRTY names is the smallest
 //     Fuel.antt             the bound on the number of fields plays no part in a reading: read_fuel
 //     Examples.antt         case N of 01, and a place for each way in which an image can be malformed
+
+#![tactic(auto)]
