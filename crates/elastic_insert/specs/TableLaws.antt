@@ -1,11 +1,10 @@
 -- Laws of tables over time. Assumes nothing.
-use Rattle.std.specs.Prelude.{Bool, true, false, List, [], ◌∷◌, ◌≡◌, refl, ℕ, zero, suc, ◌+◌, ◌-◌, ◌≤◌, ◌<◌, eqb, ltb, length, get_or, set, replicate}
-use Rattle.std.proofs.Common.{sym, ap, subst, ◌∙◌, lt_of_not-le, arith, length-set, get_or-set_same, get_or-set_other, eq-eqb, ne_eqb, eqb-true, ltb-false}
+use Rattle.std.specs.Prelude.{Bool, true, false, List, [], ◌∷◌, ◌≡◌, refl, ℕ, zero, suc, ◌+◌, ◌≤◌, ◌<◌, eqb, ltb, length, get_or, set, replicate}
+use Rattle.std.proofs.Common.{sym, ap, subst, ◌∙◌, lt_of_not-le, arith, length-set, get_or-set_same, get_or-set_other, eqb-true, ltb-false}
 use Rattle.std.proofs.Math.Decide.{dec_le}
-use Rattle.std.proofs.lemmas.List.{length-replicate, get_or-replicate}
+use Rattle.std.proofs.lemmas.List.{length-replicate}
 use Rattle.std.proofs.lemmas.Bool.{eqb-false}
 use Rattle.words.specs.BytesLaws.{get_d_zeros}
-use Rattle.words.specs.declared.place.LogicalProbe.{LogicalProbe}
 use Rattle.words.specs.Pick.{pick}
 use Rattle.geometry.specs.declared.config.Gated.{Gated}
 use Rattle.geometry.specs.declared.config.Gated.TheVariants as gated
@@ -15,10 +14,6 @@ use Rattle.geometry.specs.ElasticLaws.{total_take_step, prefix_mono, levels_fact
 use Rattle.elastic_probe.specs.Phi.{phi}
 use Rattle.elastic.specs.declared.state.Limits.{Limits}
 use Rattle.elastic.specs.declared.state.State.{State}
-use Rattle.elastic.specs.declared.state.Opened.{Opened}
-use Rattle.elastic.specs.declared.state.Opened.TheVariants as opening
-use Rattle.elastic_steps.specs.declared.answer.Case.{Case}
-use Rattle.elastic_steps.specs.declared.answer.InsertRefusal.{InsertRefusal}
 use Rattle.elastic_steps.specs.declared.answer.InsertRefusal.TheVariants as refusal
 use Rattle.elastic_steps.specs.declared.answer.InsertAnswer.{InsertAnswer}
 use Rattle.elastic_steps.specs.declared.answer.InsertAnswer.TheVariants as answer

@@ -6,7 +6,6 @@ use Rattle.words.specs.BytesLaws.{get_d_zeros}
 use Rattle.words.specs.declared.place.LogicalProbe.{LogicalProbe}
 use Rattle.words.specs.Pick.{pick}
 use Rattle.geometry.specs.declared.elastic.ElasticPlan.{ElasticPlan}
-use Rattle.elastic_probe.specs.Phi.{phi}
 use Rattle.probe.specs.Word.{elastic_key_of}
 use Rattle.elastic.specs.declared.route.Reading.{Reading}
 use Rattle.elastic.specs.declared.route.Reading.TheVariants as reading

@@ -11,8 +11,7 @@ use Rattle.geometry.specs.ElasticLaws.{levels_facts}
 use Rattle.probe.specs.Word.{elastic_key_of}
 use Rattle.elastic.specs.declared.state.Limits.{Limits}
 use Rattle.elastic.specs.declared.state.State.{State}
-use Rattle.elastic.specs.declared.state.Opened.TheVariants as opening
-use Rattle.elastic.specs.State.{fresh_of, opened, open_of}
+use Rattle.elastic.specs.State.{fresh_of}
 use Rattle.elastic.specs.StateLaws.{open_facts}
 use Rattle.elastic_steps.specs.declared.answer.InsertAnswer.TheVariants as answer
 use Rattle.elastic_steps.specs.declared.answer.InsertRefusal.TheVariants as refusal

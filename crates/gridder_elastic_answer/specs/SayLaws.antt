@@ -16,8 +16,8 @@ use Rattle.elastic_steps.specs.declared.answer.InsertRefusal.{InsertRefusal}
 use Rattle.elastic_query.specs.declared.query.Finding.{Finding}
 use Rattle.elastic_query.specs.declared.query.QueryAnswer.{QueryAnswer}
 use Rattle.elastic_query.specs.declared.query.QueryAnswer.TheVariants as querying
-use Rattle.gridder_answer.specs.Answer.{answer_length, Field, field, stored, says, Reply, reply}
-use Rattle.gridder_elastic_answer.specs.Say.{fields_at, refused_at, insert_fields, query_fields, query_places, case_fields, five_fields, inserted_fields}
+use Rattle.gridder_answer.specs.Answer.{answer_length, Field, field, stored, says, reply}
+use Rattle.gridder_elastic_answer.specs.Say.{fields_at, refused_at, insert_fields, query_fields, case_fields, five_fields, inserted_fields}
 
 pub stored_append : (b : List ℕ) (xs ys : List Field) → stored b (xs ++ ys) ≡ stored (stored b xs) ys
 unfolding stored

@@ -1,12 +1,12 @@
 -- What is written to the state block of an elastic table is read back. Assumes nothing.
-use Rattle.std.specs.Prelude.{true, List, ◌≡◌, ℕ, ◌+◌, ◌*◌, ◌%◌, ◌^◌, ◌≤◌, ◌<◌, length, get_or, replicate}
+use Rattle.std.specs.Prelude.{true, List, ◌≡◌, ℕ, ◌*◌, ◌^◌, ◌<◌, length, get_or, replicate}
 use Rattle.std.proofs.Math.Path.{refl}
 use Rattle.std.proofs.Common.{sym, ◌∙◌, arith, lt-ltb}
 use Rattle.std.proofs.lemmas.List.{length-replicate}
 use Rattle.words.specs.Bytes.{num_at}
 use Rattle.elastic.specs.declared.state.State.{State}
 use Rattle.gridder_state.specs.BlockLaws.{written, written_long, written_word, written_counts}
-use Rattle.gridder_state.specs.State.{state_length, count_at}
+use Rattle.gridder_state.specs.State.{state_length}
 use Rattle.gridder_elastic_state.specs.State.{elastic_kind, levels_at, holds_elastic, state_in, counts_in, state_words, elastic_block}
 use Rattle.gridder_state.specs.StateLaws.{holds_kind_lem}
 

@@ -1,5 +1,5 @@
 -- Laws of the exported question for the smallest funnel table. Assumes nothing.
-use Rattle.std.specs.Prelude.{List, [], ◌∷◌, ◌≡◌, refl, ℕ, zero, length, replicate}
+use Rattle.std.specs.Prelude.{List, [], ◌∷◌, ◌≡◌, ℕ, length, replicate}
 use Rattle.std.proofs.Math.Path.{ap, sym}
 use Rattle.std.proofs.Common.{◌∙◌}
 use Rattle.std.proofs.lemmas.List.Edits.{sets}
@@ -13,7 +13,7 @@ use Rattle.geometry_smallest.specs.declared.smallest.SmallestFunnel.{SmallestFun
 use Rattle.geometry_smallest.specs.declared.smallest.SmallestFunnel.TheVariants as smallest
 use Rattle.geometry_smallest.specs.Smallest.{smallest_report, Answer}
 use Rattle.geometry_smallest.specs.SmallestLaws.{answer_unique}
-use Rattle.gridder_answer.specs.Answer.{answer_length, says, saying, Reply, reply}
+use Rattle.gridder_answer.specs.Answer.{answer_length, saying, Reply, reply}
 use Rattle.gridder_answer.specs.AnswerLaws.{says_none, gate_says}
 use Rattle.gridder_answer.specs.GateLaws.{block_facts}
 use Rattle.gridder_rent.specs.Rent.{rent_gate, rent_block, rent_says, Rented, RentsBy, Rents}

@@ -5,6 +5,8 @@
 //
 // The layout of the blocks is at the heads of the lib.rt of `gridder_state` and `gridder_answer`; `include/landovireph.h` is the manual.
 
+#![tactic(auto)]
+
 pub mod check;
 pub mod elastics;
 pub mod funnels;

@@ -1,6 +1,5 @@
 use mathlib.Core.Path.{ap, sym}
 use Rattle.audit.specs.MarkedLaws.{cleared_n, marks_end}
-use Prim.Native.Nat.{◌-◌}
 use native.Mathlib.Omega.{arith}
 use mathlib.Core.Path.{◌∙◌}
 use lib.ListN.{length}

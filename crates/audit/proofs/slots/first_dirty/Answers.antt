@@ -1,4 +1,3 @@
-use Prim.Native.Nat.{◌-◌}
 use native.Mathlib.Omega.{arith}
 use mathlib.Core.Path.{sym, ◌∙◌}
 use Rattle.funnel.specs.DirtyLaws.{dirty_word, dirty_flag, clean_vacant, clean_flag}

@@ -1,4 +1,3 @@
-use Prim.Native.Nat.{◌-◌}
 use native.Mathlib.Omega.{arith}
 use mathlib.Core.Path.{◌∙◌}
 use Rattle.audit.specs.FirstLaws.{passed_none, passed_at, passed_more, passed_end, from_zero}

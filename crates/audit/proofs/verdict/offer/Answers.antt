@@ -1,4 +1,3 @@
-use Prim.Native.Nat.{◌-◌}
 use native.Mathlib.Omega.{arith}
 use mathlib.Core.Path.{◌∙◌}
 use Rattle.audit.specs.VerdictLaws.{offered_none, offered_from, offered_dead, bared_queue, offered_live, offered_end}

@@ -1,5 +1,4 @@
 use Rattle.geometry.specs.FunnelLaws.{plan_facts}
-use Prim.Native.Nat.{◌-◌}
 use native.Mathlib.Omega.{arith}
 use mathlib.Core.Path.{refl, sym, ◌∙◌}
 use Rattle.audit.specs.GreedyLaws.{valid_marks}

@@ -1,5 +1,4 @@
 use mathlib.Core.Path.{refl}
-use Prim.Native.Nat.{◌-◌}
 use native.Mathlib.Omega.{arith}
 use Rattle.geometry.specs.FunnelLaws.{plan_facts}
 use Rattle.funnel.specs.PlaceLaws.{placing_none, placing_lengths, placing_put, placing_there, placing_refused, placing_all, placed_table}

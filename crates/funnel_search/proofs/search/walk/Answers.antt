@@ -1,4 +1,3 @@
-use Prim.Native.Nat.{◌-◌}
 use native.Mathlib.Omega.{arith}
 use Rattle.geometry.specs.FunnelLaws.{plan_facts, count_some}
 use Rattle.funnel.specs.PlanLaws.{level_room}
