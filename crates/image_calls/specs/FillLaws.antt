@@ -1,10 +1,9 @@
 -- Filling, entry by entry and field by field. Assumes nothing.
-use Rattle.std.specs.Prelude.{◌≡◌, refl, Bool, true, false, List, [], ◌∷◌, ◌++◌, ℕ, suc, ◌+◌, ◌-◌, ◌/◌, ◌<◌, ◌≤◌, length, get_or, drop, set, ltb, leb}
+use Rattle.std.specs.Prelude.{◌≡◌, refl, Bool, true, false, List, [], ◌∷◌, ◌++◌, ℕ, ◌+◌, ◌-◌, ◌/◌, ◌<◌, ◌≤◌, length, set, ltb, leb}
 use Rattle.std.proofs.Math.Path.{ap, sym}
-use Rattle.std.proofs.Common.{◌∙◌, append-nil, arith, drop-cons, add-one, ltb-true, leb-true}
+use Rattle.std.proofs.Common.{◌∙◌, arith, ltb-true, leb-true}
 use Rattle.std.proofs.Math.ListN.{replicate, length-set}
-use Rattle.std.proofs.lemmas.List.{length-replicate, replicate-append-replicate, set_at}
-use Rattle.std.proofs.Math.Seq.{drop-length, append_snoc}
+use Rattle.std.proofs.lemmas.List.{length-replicate}
 use Rattle.words.specs.Pick.{pick}
 use Rattle.words.specs.Bytes.{num_at}
 use Rattle.image.specs.Format.{entry_size, Entry, entry}

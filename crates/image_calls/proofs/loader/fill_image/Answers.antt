@@ -2,7 +2,6 @@ use mathlib.Core.Path.{refl}
 use Rattle.image_calls.specs.LoadingLaws.{onward_none, onward_wrong, onward_sizes, onward_framing, onward_last, onward_fits, onward_five, onward_other}
 use native.Mathlib.Omega.{arith}
 use mathlib.Core.Path.{sym, ◌∙◌}
-use Prim.Native.Nat.{◌-◌}
 use Rattle.image_calls.proofs.loader.fill_image.Goals as goal
 
 pub loop-tag-init : goal.loop-tag-init
