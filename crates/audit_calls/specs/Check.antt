@@ -1,5 +1,5 @@
 -- The check of an image: what it answers, and what it leaves in marks and order. Assumes nothing.
-use Rattle.std.specs.Prelude.{Bool, List, [], ◌∷◌, ◌≡◌, ℕ, length, replicate}
+use Rattle.std.specs.Prelude.{List, [], ◌∷◌, ◌≡◌, ℕ, length, replicate}
 use Rattle.refusal.specs.Table.{name_of, Report, answered, refused}
 use Rattle.refusal.specs.declared.Name.TheVariants as name
 use Rattle.geometry.specs.declared.config.Gated.{Gated}

@@ -1,10 +1,10 @@
 -- Laws of the check: its tests, and its endings. Assumes nothing.
-use Rattle.std.specs.Prelude.{Bool, not, List, ℕ, ◌≤◌, ◌<◌, length, get_or, replicate}
+use Rattle.std.specs.Prelude.{Bool, not, List, ℕ, length, replicate}
 use Rattle.std.proofs.Math.Bool.{true, false}
 use Rattle.std.proofs.Math.Path.{◌≡◌, refl, sym}
 use Rattle.std.proofs.Common.{◌∙◌, arith}
 use Rattle.std.proofs.Math.Dec.{eqb}
-use borrow.Author.Tests.{eq-eqb, ne_eqb, eqb-true, lt-ltb, le-ltb}
+use borrow.Author.Tests.{eqb-true}
 use Rattle.refusal.specs.declared.Gate.{Gate}
 use Rattle.refusal.specs.declared.Gate.TheVariants as gate
 use Rattle.geometry.specs.Config.{refuse_if}

@@ -9,7 +9,7 @@ use words::bytes::{read16, read32, read64};
 const HEADER: usize = 29;
 
 // What an image is the image of, and the word cap to examine it with.
-#[derive(Drop)]
+#[derive(Clone, Copy)]
 pub struct Given {
     pub n: u64,
     pub e: u32,

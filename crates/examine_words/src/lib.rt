@@ -6,6 +6,9 @@
 //     say.rt       refusals, text and shares
 //
 // It stands apart from the program so that it is proved beside the calls that the program makes.
+
+#![tactic(auto)]
+
 pub mod header;
 pub mod say;
 pub mod summary;

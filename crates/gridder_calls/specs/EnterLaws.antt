@@ -1,5 +1,5 @@
 -- Laws of how a call on a funnel table begins. Assumes nothing.
-use Rattle.std.specs.Prelude.{true, List, [], ◌≡◌, ℕ, ◌*◌, ◌%◌, ◌≤◌, length, replicate}
+use Rattle.std.specs.Prelude.{true, List, [], ◌≡◌, ℕ, ◌*◌, ◌≤◌, length, replicate}
 use Rattle.std.proofs.Common.{sym, ◌∙◌, arith}
 use Rattle.std.proofs.lemmas.List.{length-replicate}
 use Rattle.refusal.specs.declared.Gate.{Gate}

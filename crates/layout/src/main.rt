@@ -6,6 +6,9 @@
 //     ?                                                      for any other line
 //
 // It holds one line at a time, so input of any length works.
+
+#![tactic(auto)]
+
 ghost use Rattle.std.specs.Prelude.{◌≡◌};
 ghost use Rattle.words.specs.Pick.{pick};
 ghost use Rattle.text.specs.Line.{Leaves};
@@ -20,6 +23,9 @@ use text::out::{flush, put, put_byte, put_field, put_pairs};
 
 // "at most 64 bytes without the newline"; one byte more tells a longer line.
 const LONGEST: usize = 64;
+
+// The descriptor of standard input.
+const STDIN: i32 = 0;
 
 // How far the program is: the bytes of the line so far, and the place in the output.
 #[derive(Drop)]
@@ -44,8 +50,7 @@ fn main() {
     // A proved loop ends; nobody feeds it this often.
     let mut turns = u64::MAX;
     while 0 < turns {
-        let got = libc::read(libc::STDIN_FILENO, &mut chunk);
-        let n = io::count(got, &chunk);
+        let n = io::read_full(STDIN, &mut chunk);
         if n == 0 {
             finish(&line, &mut out, now);
             return;

@@ -9,6 +9,9 @@
 // count cells in it, words and flags the bytes to lend it. Numbers are decimal, or 0x and hexadecimal digits, with single spaces between.
 //
 // It holds one line at a time, so input of any length works.
+
+#![tactic(auto)]
+
 ghost use Rattle.std.specs.Prelude.{◌≤◌, ◌≡◌};
 ghost use Rattle.words.specs.Pick.{pick};
 ghost use Rattle.text.specs.Line.{Leaves};
@@ -25,6 +28,9 @@ const LONGEST: usize = 128;
 
 // Where a range begins if the line does not say so: "first below 2 is N".
 const FIRST: u64 = 2;
+
+// The descriptor of standard input.
+const STDIN: i32 = 0;
 
 // How far the program is: the bytes of the line so far, and the place in the output.
 #[derive(Drop)]
@@ -53,8 +59,7 @@ fn main() {
     // A proved loop ends; nobody feeds it this often.
     let mut turns = u64::MAX;
     while 0 < turns {
-        let got = libc::read(libc::STDIN_FILENO, &mut chunk);
-        let n = io::count(got, &chunk);
+        let n = io::read_full(STDIN, &mut chunk);
         if n == 0 {
             finish(&line, &mut out, now);
             return;

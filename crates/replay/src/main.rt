@@ -4,6 +4,8 @@
 // A line that is no command prints `?`. A line longer than 524,288 bytes, or a table of more than 65,536 slots, is more
 // than this program holds, and prints `L`.
 
+#![tactic(auto)]
+
 ghost use Rattle.std.specs.Prelude.{◌≡◌};
 ghost use Rattle.words.specs.Pick.{pick};
 ghost use Rattle.text.specs.Line.{Leaves};
@@ -17,6 +19,9 @@ use text::out::{flush, put, put_byte};
 
 // The longest line; its buffer holds one byte more, which tells a longer one.
 const LONGEST: usize = 524288;
+
+// The descriptor of standard input.
+const STDIN: i32 = 0;
 
 // How far the program is: the bytes of the line so far, and the place in the output.
 #[derive(Drop)]
@@ -33,8 +38,7 @@ fn main() {
     // A proved loop ends; nobody feeds it this often.
     let mut turns = u64::MAX;
     while 0 < turns {
-        let got = libc::read(libc::STDIN_FILENO, &mut chunk);
-        let n = io::count(got, &chunk);
+        let n = io::read_full(STDIN, &mut chunk);
         if n == 0 {
             finish(&line, &mut out, now);
             return;

@@ -10,6 +10,9 @@
 //
 // A line is taken apart, and an answer made, by functions that do not hold the output; few hold it, and these make few
 // calls.
+
+#![tactic(auto)]
+
 pub mod digest;
 pub mod operation;
 pub mod print;

@@ -2,7 +2,7 @@
 use text::field::{OneWord, field_after, field_end, number};
 
 // An operation: its letter, and the one or two numbers behind it.
-#[derive(Drop)]
+#[derive(Clone, Copy)]
 pub struct Operation {
     pub letter: u8,
     pub first: u64,

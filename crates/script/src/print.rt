@@ -7,7 +7,7 @@ use words::product::Wide;
 // What is printed: a letter, or a number of two words; then the first fields of a row, with another letter before one of
 // them. It is plain numbers alone, because a proof spells out the type of each local at each step, and a small type
 // makes it short.
-#[derive(Drop)]
+#[derive(Clone, Copy)]
 pub struct Said {
     pub letter: u8,
     pub hi: u64,

@@ -10,7 +10,7 @@ use text::buffers::MOST_SLOTS;
 use text::field::{field_after, field_end, numbers, were_exactly};
 
 // What a funnel table is opened with.
-#[derive(Drop)]
+#[derive(Clone, Copy)]
 pub struct Opening {
     pub n: u64,
     pub e: u32,
@@ -27,7 +27,7 @@ pub struct Head {
 }
 
 // What is asked of a table: the operations from a field on, or, in bulk, many insertions. Not good where it is neither.
-#[derive(Drop)]
+#[derive(Clone, Copy)]
 pub struct Request {
     pub bulk: bool,
     pub from: usize,

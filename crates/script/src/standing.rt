@@ -4,7 +4,7 @@ use crate::print::{Said, put_answer, say_nothing};
 use text::out::{put_decimal, put_field, put_form};
 
 // A table's count, the sums of probes and of positions over all insertions, and the place in the output.
-#[derive(Drop)]
+#[derive(Clone, Copy)]
 pub struct Standing {
     pub count: u64,
     pub probes: u64,

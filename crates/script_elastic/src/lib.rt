@@ -4,6 +4,9 @@
 //     held.rt      a table opened in buffers of its length
 //     runs.rt      all operations of a run, one after the other, and the end of its answer
 //     answers.rt   what an insertion or a query is answered
+
+#![tactic(auto)]
+
 pub mod answers;
 pub mod held;
 pub mod runs;

@@ -6,7 +6,7 @@ use script::request::{Request, request_of, said_of_size};
 use text::field::numbers;
 
 // What a table is opened with.
-#[derive(Drop)]
+#[derive(Clone, Copy)]
 pub struct Setting {
     pub n: u64,
     pub e: u32,

@@ -2,5 +2,8 @@
 //
 //     runs.rt      all operations of a run, one after the other, and the end of its answer
 //     answers.rt   what an insertion or a search is answered
+
+#![tactic(auto)]
+
 pub mod answers;
 pub mod runs;

@@ -16,7 +16,7 @@ const MARK: u8 = 9;
 const ONES: u64 = 18446744073709551615;
 
 // The first fields of the answer; of a check that came to an end, how many were placed.
-#[derive(Drop)]
+#[derive(Clone, Copy)]
 struct Outcome {
     said: Said,
     ended: bool,

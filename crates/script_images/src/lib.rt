@@ -7,6 +7,9 @@
 //
 // Lines are taken apart by `script_tasks`. Here as there everything is proved safe and ending; the answers are those of the
 // public calls, and what is printed is run and compared.
+
+#![tactic(auto)]
+
 pub mod check;
 pub mod held;
 pub mod load;

@@ -5,6 +5,9 @@
 //     phi.rt       PHI PHB PHINV
 //     layouts.rt   EL FL
 //     smallest.rt  SN MS
+
+#![tactic(auto)]
+
 pub mod draws;
 pub mod layouts;
 pub mod phi;

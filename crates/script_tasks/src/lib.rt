@@ -6,6 +6,9 @@
 //     buffers.rt   what lent buffers hold on entry, and whether they still do
 //
 // It makes no call on a table, so it is proved beside these calls.
+
+#![tactic(auto)]
+
 pub mod buffers;
 pub mod bytes;
 pub mod entries;

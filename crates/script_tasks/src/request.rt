@@ -14,7 +14,7 @@ const MOST_ROOM: u64 = 1048576;
 // What is asked of a table: a run, or a command on an image, by its letter. A field goes from one place to another: the image
 // of LOAD, the label of WRITE. The number is the room of WRITE, the count of CHECK; entries start at a place. Not good where
 // the line is no such command.
-#[derive(Drop)]
+#[derive(Clone, Copy)]
 pub struct Task {
     pub letter: u8,
     pub run: Request,

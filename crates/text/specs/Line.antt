@@ -1,5 +1,5 @@
 -- Lines out of an input that comes in parts. Assumes nothing.
-use Rattle.std.specs.Prelude.{◌≡◌, ℕ, zero, suc, ◌+◌, ◌-◌, ◌<◌, Bool, true, false, List, [], ◌∷◌, ◌++◌, length, take, drop, ◌==◌, nat_lt}
+use Rattle.std.specs.Prelude.{◌≡◌, ℕ, ◌<◌, Bool, true, false, List, [], ◌∷◌, ◌++◌, length, take, drop, ◌==◌, nat_lt}
 use Rattle.words.specs.Pick.{pick}
 
 -- a byte more of a line, "at most" so many: a longer line keeps its first bytes

@@ -1,6 +1,6 @@
 -- Laws of lines in parts. Assumes nothing.
-use Rattle.std.specs.Prelude.{◌≡◌, ℕ, zero, suc, ◌+◌, ◌-◌, ◌<◌, ◌≤◌, Bool, true, false, List, [], ◌∷◌, ◌++◌, length, take, drop, ◌==◌, ◌≢◌, slice_index, slice_set, refl}
-use Rattle.std.proofs.Common.{sym, ap, ◌∙◌, add-one, arith, length-take, length-set, drop-cons, take-suc-set}
+use Rattle.std.specs.Prelude.{◌≡◌, ℕ, zero, suc, ◌+◌, ◌<◌, ◌≤◌, Bool, true, false, List, [], ◌∷◌, length, take, drop, ◌==◌, ◌≢◌, slice_index, slice_set, refl}
+use Rattle.std.proofs.Common.{sym, ap, ◌∙◌, add-one, arith, length-take, drop-cons, take-suc-set}
 use borrow.Author.Tests.{eq-eqb, ne_eqb, lt-ltb, le-ltb}
 use Rattle.words.specs.Pick.{pick}
 use Rattle.text.specs.Line.{hold, unfinished, finished, line_of, held_of, Takes, Leaves}

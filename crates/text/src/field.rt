@@ -19,7 +19,7 @@ pub enum TwoWords {
 
 // What a row of number fields gave: how many there were, and where the next field starts, past the line where there is
 // none. Where one of the fields was no number, `next` is where it starts and `good` is false.
-#[derive(Drop)]
+#[derive(Clone, Copy)]
 pub struct Row {
     pub count: usize,
     pub next: usize,

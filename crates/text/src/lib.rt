@@ -7,6 +7,8 @@
 //
 // The programs are run and compared with stored outputs; here everything is proved safe and ending, for any bytes.
 
+#![tactic(auto)]
+
 pub mod buffers;
 pub mod field;
 pub mod line;

@@ -6,6 +6,9 @@ use words::product::Wide;
 
 const P: u64 = 0x1_0000_0000;
 
+// The descriptor of standard output.
+const STDOUT: i32 = 1;
+
 // A two-word number without its last decimal digit, and that digit.
 #[derive(Drop)]
 struct Tenth {
@@ -16,9 +19,9 @@ struct Tenth {
 // Writes what is gathered to standard output, and answers the place after it, which is the start.
 pub fn flush(out: &[u8], at: usize) -> usize {
     if at <= out.len() {
-        io::write_all(libc::STDOUT_FILENO, &out[..at]);
+        io::write_all(STDOUT, &out[..at]);
     } else {
-        io::write_all(libc::STDOUT_FILENO, out);
+        io::write_all(STDOUT, out);
     }
     0
 }
