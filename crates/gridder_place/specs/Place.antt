@@ -1,5 +1,5 @@
 -- The exported placement of many identities: its gate, and what it answers and leaves. Assumes nothing.
-use Rattle.std.specs.Prelude.{Bool, not, false, List, [], ◌∷◌, ℕ, ◌/◌, ◌%◌, eqb, leb, length}
+use Rattle.std.specs.Prelude.{Bool, not, false, List, [], ℕ, ◌/◌, ◌%◌, eqb, leb, length}
 use Rattle.refusal.specs.Table.{number_of, name_of}
 use Rattle.refusal.specs.declared.Gate.TheVariants as gate
 use Rattle.refusal.specs.declared.Name.TheVariants as name
