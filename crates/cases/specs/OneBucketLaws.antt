@@ -1,9 +1,9 @@
 -- Laws of the funnel table in which every level is one bucket: its plan, and its paths, which start with the ordinary slots in order,
 -- whatever the seed, the word cap and the identity. Assumes nothing.
-use Rattle.std.specs.Prelude.{true, List, ◌∷◌, ◌++◌, ◌≡◌, length, take, get_or, replicate}
-use Rattle.std.proofs.Common.{append_assoc, sym, ◌∙◌, lit≤, le-leb}
+use Rattle.std.specs.Prelude.{List, ◌∷◌, ◌++◌, ◌≡◌, length, take, get_or, replicate}
+use Rattle.std.proofs.Common.{append_assoc, sym, ◌∙◌, lit≤}
 use Rattle.std.proofs.Math.Path.{refl, ap}
-use Prim.Native.Nat.{ℕ, zero, suc, ◌+◌, ◌-◌, ◌*◌, ◌/◌, ◌%◌, ◌^◌, ◌≤◌, ◌<◌}
+use Prim.Native.Nat.{ℕ, zero, suc, ◌+◌, ◌-◌, ◌*◌, ◌/◌, ◌%◌, ◌≤◌, ◌<◌}
 use Rattle.std.proofs.Math.Nat.{dvd_of_mod-eq-zero}
 use native.Mathlib.Omega.{arith}
 use Rattle.std.proofs.lemmas.List.{length-replicate, get_or-replicate, take-append-le}

@@ -14,7 +14,7 @@ use Rattle.funnel.specs.CallLaws.{valid_gate}
 use Rattle.funnel.specs.Calls.{table_gate}
 use Rattle.funnel.specs.Valid.{Valid}
 use Rattle.funnel.specs.declared.table.FunnelTable.{FunnelTable}
-use Rattle.audit_calls.specs.Check.{ended, audit_of, check_gate, report_of, Lent}
+use Rattle.audit_calls.specs.Check.{ended, audit_of, report_of, Lent}
 use Rattle.audit_calls.specs.CheckLaws.{gate_lent}
 use Rattle.audit_calls.specs.declared.check.Checked.{Checked}
 use Rattle.lent.specs.Lent.{words_of, words_in, word_count}

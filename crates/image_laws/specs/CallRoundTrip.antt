@@ -24,7 +24,7 @@ use Rattle.image_writer.specs.declared.writer.Written.TheVariants as written
 use Rattle.image_laws.specs.ReadAfterWrite.{label_place}
 use Rattle.image_laws.specs.RoundTrip.{Machine, LoadedAll, loaded_all, load_after_write, write_after_load}
 use Rattle.image_laws.specs.TableLaws.{rising_few}
-use Rattle.image_laws.specs.WriteAfterRead.{Image, write_after_read}
+use Rattle.image_laws.specs.WriteAfterRead.{write_after_read}
 
 -- ---- what the writer wrote, the loader reads back
 

@@ -6,7 +6,7 @@ use mathlib.Core.List.{List, [], ◌∷◌, ◌++◌, append_assoc, append-nil}
 use Prim.Native.Nat.{ℕ, zero, suc, ◌+◌, ◌*◌, ◌-◌, ◌/◌, ◌%◌, ◌^◌, ◌<◌, ◌≤◌, min}
 use native.Mathlib.Omega.{arith}
 use Rattle.std.proofs.Math.ListN.{length, length-append}
-use borrow.Author.Tests.{le-ltb, le-leb, eq-eqb, eqb-false}
+use borrow.Author.Tests.{le-ltb, eq-eqb, eqb-false}
 use Rattle.words.specs.Pick.{pick}
 use Rattle.words.specs.Bytes.{bytes_of, num_at}
 use Rattle.words.specs.BytesLaws.{num_bytes, length_bytes}

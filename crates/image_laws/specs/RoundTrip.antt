@@ -25,7 +25,7 @@ use Rattle.image_calls.specs.declared.loader.Filled.TheVariants as filled
 use Rattle.image_writer.specs.declared.writer.Written.TheVariants as written
 use Rattle.image_laws.specs.ReadAfterWrite.{Fit, none, one, Valid, label_place, read_after_write}
 use Rattle.image_laws.specs.TableLaws.{fill_words_entries, fill_flags_entries, entries_rise, entries_filled, scan_filled}
-use Rattle.image_laws.specs.WriteAfterRead.{Image, write_after_read}
+use Rattle.image_laws.specs.WriteAfterRead.{write_after_read}
 
 -- what machine numbers are: those of a table, and its words
 pub record Machine (hd : Head) (words : List ℕ) : Type 0 where

@@ -17,15 +17,13 @@ use geometry::elastic::{ElasticPlanned, elastic_plan};
 use geometry::funnel::FunnelPlanned;
 use geometry_funnel::plan::funnel_plan;
 use refusal::Gate;
+use std::io::Read;
 use text::field::{OneWord, decimal, field_end};
 use text::line::{Gathered, gather};
 use text::out::{flush, put, put_byte, put_field, put_pairs};
 
 // "at most 64 bytes without the newline"; one byte more tells a longer line.
 const LONGEST: usize = 64;
-
-// The descriptor of standard input.
-const STDIN: i32 = 0;
 
 // How far the program is: the bytes of the line so far, and the place in the output.
 #[derive(Drop)]
@@ -42,7 +40,8 @@ enum Query {
     Unknown,
 }
 
-fn main() {
+fn main(rt: HostRuntime) {
+    let mut input = rt.stdin();
     let mut chunk = io::large_buffer();
     let mut out = io::large_buffer();
     let mut line = [0u8; 65];
@@ -50,7 +49,8 @@ fn main() {
     // A proved loop ends; nobody feeds it this often.
     let mut turns = u64::MAX;
     while 0 < turns {
-        let n = io::read_full(STDIN, &mut chunk);
+        // A read that fails ends the input.
+        let n = input.read(&mut chunk).unwrap_or(0);
         if n == 0 {
             finish(&line, &mut out, now);
             return;

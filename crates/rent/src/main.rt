@@ -19,6 +19,7 @@ ghost use Rattle.text.specs.Line.{Leaves};
 use geometry::config::LARGEST_N;
 use geometry_smallest::smallest::{SmallestFunnel, smallest_funnel};
 use refusal::Name;
+use std::io::Read;
 use text::field::{Row, numbers, were_exactly};
 use text::line::{Gathered, gather};
 use text::out::{flush, put, put_byte, put_decimal, put_field, put_row};
@@ -28,9 +29,6 @@ const LONGEST: usize = 128;
 
 // Where a range begins if the line does not say so: "first below 2 is N".
 const FIRST: u64 = 2;
-
-// The descriptor of standard input.
-const STDIN: i32 = 0;
 
 // How far the program is: the bytes of the line so far, and the place in the output.
 #[derive(Drop)]
@@ -51,7 +49,8 @@ enum Query {
     Unknown,
 }
 
-fn main() {
+fn main(rt: HostRuntime) {
+    let mut input = rt.stdin();
     let mut chunk = io::large_buffer();
     let mut out = io::large_buffer();
     let mut line = [0u8; 129];
@@ -59,7 +58,8 @@ fn main() {
     // A proved loop ends; nobody feeds it this often.
     let mut turns = u64::MAX;
     while 0 < turns {
-        let n = io::read_full(STDIN, &mut chunk);
+        // A read that fails ends the input.
+        let n = input.read(&mut chunk).unwrap_or(0);
         if n == 0 {
             finish(&line, &mut out, now);
             return;

@@ -13,15 +13,13 @@ ghost use Rattle.text.specs.Line.{Leaves};
 use script::word::{Word, key_of, word_of};
 use script_elastic::held;
 use script_numbers::{layouts, probes};
+use std::io::Read;
 use text::field::{field_after, field_end};
 use text::line::{Gathered, gather};
 use text::out::{flush, put, put_byte};
 
 // The longest line; its buffer holds one byte more, which tells a longer one.
 const LONGEST: usize = 524288;
-
-// The descriptor of standard input.
-const STDIN: i32 = 0;
 
 // How far the program is: the bytes of the line so far, and the place in the output.
 #[derive(Drop)]
@@ -30,7 +28,8 @@ struct Progress {
     at: usize,
 }
 
-fn main() {
+fn main(rt: HostRuntime) {
+    let mut input = rt.stdin();
     let mut chunk = io::large_buffer();
     let mut out = io::large_buffer();
     let mut line = [0u8; 524289];
@@ -38,7 +37,8 @@ fn main() {
     // A proved loop ends; nobody feeds it this often.
     let mut turns = u64::MAX;
     while 0 < turns {
-        let n = io::read_full(STDIN, &mut chunk);
+        // A read that fails ends the input.
+        let n = input.read(&mut chunk).unwrap_or(0);
         if n == 0 {
             finish(&line, &mut out, now);
             return;

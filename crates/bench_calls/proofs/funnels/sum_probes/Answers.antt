@@ -1,4 +1,3 @@
-use Rattle.std.proofs.Common.{◌-◌}
 use Rattle.lent.specs.Lent.{words_in}
 use Rattle.bench_calls.proofs.funnels.sum_probes.Goals as goal
 
