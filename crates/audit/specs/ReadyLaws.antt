@@ -15,7 +15,7 @@ use Rattle.funnel.specs.declared.table.Stop.TheVariants as stop
 use Rattle.funnel.specs.Path.{slot_of}
 use Rattle.funnel.specs.Search.{find_of}
 use Rattle.funnel.specs.Stop.{HitAt, VacantAt, StopsAt}
-use Rattle.funnel.specs.InsertLaws.{find_count}
+use Rattle.funnel.proofs.InsertLaws.{find_count}
 use Rattle.funnel.specs.Insert.{with_count, insert_by, insert_of}
 use Rattle.audit.specs.Greedy.{unplaced, inserted_at, into_placed, ready, vacant_at}
 

@@ -15,7 +15,7 @@ use Rattle.funnel.specs.declared.table.Search.TheVariants as search
 use Rattle.funnel.specs.Valid.{Valid}
 use Rattle.funnel.specs.Fresh.{State}
 use Rattle.funnel.specs.Insert.{done, insert_of}
-use Rattle.funnel.specs.InsertLaws.{insert_inserted, insert_spent_vacant, insert_duplicate}
+use Rattle.funnel.proofs.InsertLaws.{insert_inserted, insert_spent_vacant, insert_duplicate}
 use Rattle.geometry.specs.declared.config.Gated.TheVariants.{Passed}
 use Rattle.geometry.specs.FunnelGateLaws.{plan_passes}
 use Rattle.funnel.specs.declared.table.OpenAnswer.TheVariants as opening

@@ -15,7 +15,7 @@ use Rattle.funnel.specs.declared.table.Step.{Step}
 use Rattle.funnel.specs.Calls.{table_gate, open_gate, Opens, Insertions, insertions, insert_gated, insert_answer_of}
 use Rattle.funnel.specs.CallLaws.{limits_pass, lengths_pass, open_gate_later, valid_gate}
 use Rattle.funnel.specs.Fresh.{Sound}
-use Rattle.funnel.specs.FreshLaws.{fresh_sound, next_sound}
+use Rattle.funnel.proofs.FreshLaws.{fresh_sound, next_sound}
 use Rattle.funnel.specs.Insert.{Done, done, insert_of}
 use Rattle.funnel.specs.Path.{slot_of}
 use Rattle.funnel.specs.Valid.{Valid}

@@ -19,7 +19,7 @@ use Rattle.geometry.specs.Funnel.{IsPlan}
 use Rattle.geometry.specs.FunnelLaws.{plan_facts}
 use Rattle.geometry.specs.declared.funnel.FunnelPlan.{FunnelPlan}
 use Rattle.funnel.specs.Fresh.{fresh, after, Sound}
-use Rattle.funnel.specs.FreshLaws.{fresh_after}
+use Rattle.funnel.proofs.FreshLaws.{fresh_after}
 use Rattle.funnel.specs.Insert.{with_count}
 use Rattle.image_calls.specs.declared.calls.Loaded.TheVariants as loaded
 use Rattle.image_writer.specs.declared.writer.Written.TheVariants as written

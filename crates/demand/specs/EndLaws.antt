@@ -21,7 +21,7 @@ use Rattle.audit.specs.FirstLaws.{first_none, first_all}
 use Rattle.audit.specs.Marked.{marks_of}
 use Rattle.audit.specs.MarkedLaws.{listed_whole}
 use Rattle.audit.specs.ReadyLaws.{unplaced_vacant, unplaced_marked, unplaced_yes}
-use Rattle.funnel.specs.FreshLaws.{occupied_none}
+use Rattle.funnel.proofs.FreshLaws.{occupied_none}
 use Rattle.demand.specs.Made.{Clean, Occupied, members, Made, PartOf}
 use Rattle.demand.specs.MadeLaws.{members_part, members_whole}
 use Rattle.demand.specs.WalkLaws.{Below}

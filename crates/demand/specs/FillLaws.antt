@@ -10,10 +10,10 @@ use Rattle.funnel.specs.declared.table.Search.TheVariants.{Vacant}
 use Rattle.funnel.specs.Path.{slot_of}
 use Rattle.funnel.specs.Search.{table_path, find_of}
 use Rattle.funnel.specs.Insert.{Done, with_count}
-use Rattle.funnel.specs.InsertLaws.{find_count, inserted_facts}
+use Rattle.funnel.proofs.InsertLaws.{find_count, inserted_facts}
 use Rattle.audit.specs.Greedy.{ready}
 use Rattle.audit.specs.ReadyLaws.{ready_by}
-use Rattle.funnel.specs.FreshLaws.{occupied_set}
+use Rattle.funnel.proofs.FreshLaws.{occupied_set}
 use Rattle.demand.specs.Made.{Occupied, Clean, members, Inserts, none, one, PartOf}
 use Rattle.demand.specs.MadeLaws.{get_d_set_cases}
 use Rattle.demand.specs.WalkLaws.{Inside, find_over, find_vacancy, Below, find_below}

@@ -10,7 +10,7 @@ use Rattle.funnel.specs.declared.table.Insertion.{Insertion}
 use Rattle.funnel.specs.declared.table.Insertion.TheVariants as insertion
 use Rattle.funnel.specs.Path.{slot_of}
 use Rattle.funnel.specs.Insert.{Done, done, with_count, insert_of}
-use Rattle.funnel.specs.InsertLaws.{Inserts as Changes, insert_changes, inserted_facts}
+use Rattle.funnel.proofs.InsertLaws.{Inserts as Changes, insert_changes, inserted_facts}
 use Rattle.funnel.specs.Fresh.{State, fresh, next, after}
 use Rattle.demand.specs.Made.{Inserts, none, one, Made}
 use Rattle.demand.specs.TakeLaws.{inserts_snoc}

@@ -14,12 +14,12 @@ use Rattle.funnel.specs.Search.{table_path, find_of}
 use Rattle.funnel.specs.Insert.{done, with_count, insert_of}
 use Rattle.audit.specs.declared.slots.First.{First}
 use Rattle.audit.specs.declared.slots.First.TheVariants.{At, Nothing}
-use Rattle.funnel.specs.InsertLaws.{insert_inserted}
+use Rattle.funnel.proofs.InsertLaws.{insert_inserted}
 use Rattle.audit.specs.Greedy.{first_from, ready, taken, by_first, greedy_of}
 use Rattle.audit.specs.FirstLaws.{first_found, first_none}
 use Rattle.audit.specs.ReadyLaws.{Ready, ready_facts, ready_marked}
 use Rattle.funnel.specs.Fresh.{occupied}
-use Rattle.funnel.specs.FreshLaws.{occupied_none, occupied_set}
+use Rattle.funnel.proofs.FreshLaws.{occupied_none, occupied_set}
 use Rattle.demand.specs.Made.{Occupied, members, Inserts, none, one, identities_at, placed_words}
 use Rattle.demand.specs.MadeLaws.{get_d_set_cases, members_most, placed_none, placed_set, placed_same}
 use Rattle.demand.specs.WalkLaws.{find_same, Below}

@@ -1,14 +1,7 @@
 pub mod Schedule
-pub mod QuotaLaws
-pub mod BatchLaws
 pub mod Choice
-pub mod ChoiceLaws
-pub mod ScheduleLaws
 pub mod Lasting
 pub mod GateLaws
 pub mod Lookup
-pub mod WalkLaws
 pub mod HoldsLaws
-pub mod LookupLaws
 pub mod Examples
-pub mod Never

@@ -17,6 +17,7 @@
 //                          its insertion, unless a range reduction is refused before: went_placed, found_by_phi
 //     Examples.antt        a state that a caller made up is still answered SCHEDULE: made_up_schedule
 //
-// Schedule.antt, Choice.antt, Lasting.antt and Lookup.antt have the definitions that these laws use.
+// They stand in proofs/, but for GateLaws.antt, HoldsLaws.antt and Examples.antt, which are in specs/ with the definitions that all use:
+// Schedule.antt, Choice.antt, Lasting.antt and Lookup.antt. So an edit of such a definition is refused by the theorem that no longer holds.
 
 #![tactic(auto)]

@@ -1,1 +1,5 @@
 pub mod Stays
+pub mod InsertLaws
+pub mod FreshLaws
+pub mod PlaceLaws
+pub mod SettleLaws

@@ -17,7 +17,7 @@
 //     scan.rt       walks over slots, the only readers of the buffers
 //
 // specs/Path.antt says what a path is, Search.antt and Insert.antt what a search and an insertion are, Calls.antt what the
-// public calls answer; FreshLaws.antt has the theorems about a table over time.
+// public calls answer; proofs/FreshLaws.antt has the theorems about a table over time.
 
 #![tactic(auto)]
 

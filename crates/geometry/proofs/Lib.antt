@@ -1,2 +1,3 @@
 mod ActiveBatch
 mod Fill
+pub mod ReportLaws

@@ -29,4 +29,3 @@ pub mod FunnelGateLaws
 pub mod ZeroLaws
 pub mod FunnelTestLaws
 pub mod PartLaws
-pub mod ReportLaws

@@ -1,5 +1,5 @@
 -- `funnel_insert::insert::insert` meets its contract. `put` with the table's own count. Assumes nothing.
-use Rattle.funnel.specs.InsertLaws.{done_table, stepped_inserted}
+use Rattle.funnel.proofs.InsertLaws.{done_table, stepped_inserted}
 use Rattle.funnel_insert.proofs.Stepped.{unstepped}
 use Rattle.funnel_insert.proofs.insert.insert.Goals as goal
 

@@ -1,7 +1,7 @@
 -- `funnel_insert::insert::put` meets its contract. One law for each answer of the search; the vacancy lies in both buffers by a law of the path. Assumes nothing.
 use mathlib.Core.Path.{sym, ◌∙◌}
 use native.Mathlib.Omega.{arith}
-use Rattle.funnel.specs.InsertLaws.{vacant_within, insert_range, insert_duplicate, insert_spent_vacant, insert_spent_full, insert_full, insert_inserted}
+use Rattle.funnel.proofs.InsertLaws.{vacant_within, insert_range, insert_duplicate, insert_spent_vacant, insert_spent_full, insert_full, insert_inserted}
 use Rattle.funnel_insert.proofs.insert.put.Goals as goal
 
 pub returns-then-maximum-count : goal.returns-then-maximum-count

@@ -1,7 +1,7 @@
 use mathlib.Core.Path.{refl}
 use native.Mathlib.Omega.{arith}
 use Rattle.geometry.specs.FunnelLaws.{plan_facts}
-use Rattle.funnel.specs.PlaceLaws.{placing_none, placing_lengths, placing_put, placing_there, placing_refused, placing_all, placed_table}
+use Rattle.funnel.proofs.PlaceLaws.{placing_none, placing_lengths, placing_put, placing_there, placing_refused, placing_all, placed_table}
 use Rattle.funnel_place.proofs.PlaceAll.{settles_of}
 use Rattle.funnel_place.proofs.place_all.place_all.Goals as goal
 

@@ -3,7 +3,7 @@ use Rattle.lent.specs.Lent.{words_in}
 use mathlib.Core.Path.{◌≡◌}
 use Prim.Native.Nat.{◌-◌}
 use lib.ListN.{length}
-use Rattle.funnel.specs.PlaceLaws.{Placing}
+use Rattle.funnel.proofs.PlaceLaws.{Placing}
 use Rattle.funnel_place.proofs.place_all.place_all.Given as goal
 
 abbrev pub invariant-loop-i : goal.invariant-loop-i

@@ -5,7 +5,7 @@ use mathlib.Core.Path.{subst}
 use native.Mathlib.Omega.{arith}
 use Rattle.funnel.specs.declared.table.Stop.{Stop}
 use Rattle.funnel.specs.Stop.{StopsAt}
-use Rattle.funnel.specs.SettleLaws.{settles_by, settles_there, settles_put, vacant_slot}
+use Rattle.funnel.proofs.SettleLaws.{settles_by, settles_there, settles_put, vacant_slot}
 use Rattle.funnel_place.proofs.place_all.settle.Goals as goal
 
 pub returns-then-maximum-count : goal.returns-then-maximum-count

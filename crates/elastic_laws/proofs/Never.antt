@@ -22,10 +22,10 @@ use Rattle.elastic_query.specs.declared.query.QueryAnswer.TheVariants as query
 use Rattle.elastic_query.specs.Query.{query_of}
 use Rattle.elastic_insert.specs.Table.{Reached, fresh}
 use Rattle.elastic_laws.specs.Schedule.{answers_of}
-use Rattle.elastic_laws.specs.ScheduleLaws.{answers_never}
+use Rattle.elastic_laws.proofs.ScheduleLaws.{answers_never}
 use Rattle.elastic_laws.specs.Lookup.{WentIn, read_at, route_of, Answers, Inserted, Unanswered, Exactly, member, stranger}
-use Rattle.elastic_laws.specs.WalkLaws.{positions_found, positions_unanswered}
-use Rattle.elastic_laws.specs.LookupLaws.{stored_went_in, found_by_phi, answers_found, query_walks, stranger_nowhere, nowhere_stranger}
+use Rattle.elastic_laws.proofs.WalkLaws.{positions_found, positions_unanswered}
+use Rattle.elastic_laws.proofs.LookupLaws.{stored_went_in, found_by_phi, answers_found, query_walks, stranger_nowhere, nowhere_stranger}
 
 -- ---- SCHEDULE
 

@@ -15,7 +15,7 @@ use Rattle.geometry.specs.Elastic.{total, levels_of}
 use Rattle.geometry.specs.ElasticLaws.{total_take_step}
 use Rattle.elastic_steps.specs.Insert.{added_to}
 use Rattle.elastic_laws.specs.Schedule.{next_limit, current_limit, filled_to, quotas_before, InBatch, Takes, alone, current, next}
-use Rattle.elastic_laws.specs.QuotaLaws.{limits_order, quotas_fill}
+use Rattle.elastic_laws.proofs.QuotaLaws.{limits_order, quotas_fill}
 
 -- ---- sums of level counts
 

@@ -21,7 +21,7 @@ use Rattle.funnel.specs.EveryLaws.{every_map}
 use Rattle.funnel.specs.Search.{search_of, table_path, find_of}
 use Rattle.funnel.specs.SearchLaws.{Passes, Reached, walk_vacant, walk_hit, reached_hit}
 use Rattle.funnel.specs.Insert.{Done, done, with_count, insert_by, insert_of}
-use Rattle.funnel.specs.InsertLaws.{find_count, vacant_within, Inserts, inserted_facts, unchanged, insert_changes, insert_duplicate}
+use Rattle.funnel.proofs.InsertLaws.{find_count, vacant_within, Inserts, inserted_facts, unchanged, insert_changes, insert_duplicate}
 use Rattle.funnel.specs.Valid.{Valid}
 use Rattle.funnel.specs.Fresh.{State, fresh, answer_of, next, after, counted, inserted_of, occupied, Sound}
 

@@ -14,8 +14,8 @@ use Rattle.funnel.specs.declared.table.Placement.TheVariants as placement
 use Rattle.funnel.specs.declared.table.Settled.{Settled}
 use Rattle.funnel.specs.declared.table.Settled.TheVariants as settled
 use Rattle.funnel.specs.Insert.{Done, done, with_count, insert_of, Settles, Placed, placed, place_on, place_from, place_all_of}
-use Rattle.funnel.specs.InsertLaws.{inserted_facts, insert_changes}
-use Rattle.funnel.specs.SettleLaws.{put_inserted, put_on, there_on, refused_on, there_table, refused_table}
+use Rattle.funnel.proofs.InsertLaws.{inserted_facts, insert_changes}
+use Rattle.funnel.proofs.SettleLaws.{put_inserted, put_on, there_on, refused_on, there_table, refused_table}
 use Rattle.funnel.specs.Valid.{Valid}
 
 -- the buffers keep their lengths

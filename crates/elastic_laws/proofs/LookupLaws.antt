@@ -26,11 +26,11 @@ use Rattle.elastic_steps.specs.InsertLaws.{Taken, choose_taken}
 use Rattle.elastic_insert.specs.Table.{Outcome, kept, stored, Reached, fresh, more}
 use Rattle.elastic_insert.specs.TableLaws.{never, insert_outcome, leaves, reached_kept}
 use Rattle.elastic_laws.specs.Schedule.{batch_now}
-use Rattle.elastic_laws.specs.ChoiceLaws.{steps_chose, slot_stepped}
+use Rattle.elastic_laws.proofs.ChoiceLaws.{steps_chose, slot_stepped}
 use Rattle.elastic_laws.specs.GateLaws.{reached_lasting, reached_gate}
 use Rattle.elastic_laws.specs.Lookup.{WentIn, now, later, read_at, route_of, Answers, found, refused, Placed, Inserted}
 use Rattle.elastic_laws.specs.HoldsLaws.{holds_flag, holds_apart, holds_written, holds_only_written, nowhere}
-use Rattle.elastic_laws.specs.WalkLaws.{positions_answer}
+use Rattle.elastic_laws.proofs.WalkLaws.{positions_answer}
 
 -- ---- what a search read
 

@@ -19,10 +19,10 @@ use Rattle.elastic_steps.specs.Insert.{Done, counted, added_to, insert_of}
 use Rattle.elastic_insert.specs.Table.{Outcome, kept, stored, Reached, fresh, more}
 use Rattle.elastic_insert.specs.TableLaws.{insert_outcome, leaves, reached_kept}
 use Rattle.elastic_laws.specs.Schedule.{quotas_before, batch_now, InBatch, Takes, alone, current, next, Scheduled, answers_of}
-use Rattle.elastic_laws.specs.QuotaLaws.{batch_uncut}
-use Rattle.elastic_laws.specs.BatchLaws.{batch_fresh, batch_takes, batches_end, never_both_full}
+use Rattle.elastic_laws.proofs.QuotaLaws.{batch_uncut}
+use Rattle.elastic_laws.proofs.BatchLaws.{batch_fresh, batch_takes, batches_end, never_both_full}
 use Rattle.elastic_laws.specs.Choice.{BothLow}
-use Rattle.elastic_laws.specs.ChoiceLaws.{steps_chose, steps_schedule, slot_stepped, schedule_stepped}
+use Rattle.elastic_laws.proofs.ChoiceLaws.{steps_chose, steps_schedule, slot_stepped, schedule_stepped}
 
 -- ---- a table with room
 

@@ -13,7 +13,7 @@ use Rattle.funnel.specs.Path.{slot_of}
 use Rattle.funnel.specs.Search.{find_of}
 use Rattle.funnel.specs.Stop.{HitAt, VacantAt}
 use Rattle.funnel.specs.Insert.{Done, done, with_count, insert_of, settled_of, Settles, Placed, placed, place_on}
-use Rattle.funnel.specs.InsertLaws.{insert_duplicate, insert_inserted, vacant_within, unchanged}
+use Rattle.funnel.proofs.InsertLaws.{insert_duplicate, insert_inserted, vacant_within, unchanged}
 use Rattle.funnel.specs.Valid.{Valid}
 
 -- ---- by an insertion in full
