@@ -31,7 +31,7 @@ CFLAGS ?= -O2 -g
 
 # The exported calls are in the crate landovireph; the code that theirs comes from is in any crate but the programs'.
 SOURCES := $(filter-out crates/layout/% crates/rent/% crates/replay/% crates/script% crates/text/% crates/bench_calls/%, $(wildcard crates/*/src/*.rt))
-LIBRARY = target/staticlib/liblandovireph.a
+LIBRARY = crates/landovireph/out/liblandovireph.a
 
 OUT = target/c
 HEADERS = include/landovireph.h include/landovireph_table.h
@@ -50,7 +50,8 @@ examine: $(OUT)/examine
 
 # Proves the crate and what it is made of, where that is not done, and compiles what is proved.
 $(LIBRARY): $(SOURCES)
-	rt staticlib landovireph
+	cd crates/landovireph && rt lib
+	@touch $@
 
 $(OUT)/version.o: host/version.c include/landovireph.h
 	@mkdir -p $(OUT)
@@ -66,9 +67,10 @@ $(OUT)/$(SHARED): $(OUT)/liblandovireph.a host/names
 	    -Wl,--whole-archive $< -Wl,--no-whole-archive -o $@
 	host/take --test include/landovireph.h $@
 
+# No symbolic links here, since `rt ci` takes none in a checkout; an installation has them.
 $(OUT)/liblandovireph.so: $(OUT)/$(SHARED)
-	ln -sf $(SHARED) $(OUT)/$(SONAME)
-	ln -sf $(SONAME) $@
+	ln -f $< $(OUT)/$(SONAME)
+	ln -f $< $@
 
 $(PACKAGE:%=$(OUT)/%): $(OUT)/%: host/%.in include/landovireph.h Makefile
 	@mkdir -p $(OUT)
@@ -129,5 +131,5 @@ clean:
 
 .PHONY: all examine check demonstration install uninstall clean
 
-# Two runs of rt would prove the same crates in the same folder at a time.
+# Two runs of rt would wait for one another.
 .NOTPARALLEL:

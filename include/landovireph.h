@@ -59,7 +59,7 @@
  *               an image, not as its state block, where another version may read it.
  *     images    Every later version reads the images of this one. What it writes may have further fields, which this one refuses.
  *
- * Building the library from nothing (`make`) proves the crates that it is made of, which takes some eight minutes on two cores.
+ * Building the library from nothing (`make`) proves the crates that it is made of, which takes some minutes.
  */
 #ifndef LANDOVIREPH_H
 #define LANDOVIREPH_H
