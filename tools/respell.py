@@ -19,10 +19,12 @@ TOKEN = re.compile(r"(?<![\w'])[^\W\d][\w'₀₁₂₃₄₅₆₇₈₉-]*")
 DECLARED = re.compile(
     r"^(?:(?:pub|abbrev|unfoldable|pattern)\s+)*(?:(?:data|record)\s+)?(?:pub\s+)?([^\W\d][\w'-]*)\s*(?:\{[^}]*\})?\s*(?:[({].*)?:(?:\s|$)"
 )
-MEMBER = re.compile(r"^\s+(?:\|\s*)?(?:pub\s+)?([^\W\d][\w'-]*)\s*:\s")
+MEMBER = re.compile(r"^\s+(?:\|\s*)?(?:(?:pub|abbrev|unfoldable)\s+)*([^\W\d][\w'-]*)\s*:\s")
 IMPORT = re.compile(r"^(?:ghost )?use ([\w.'-]+)\.\{([^}]*)\}", re.S | re.M)
 # Functions into types whose names began with a small letter.
 TYPES = {"clear": "IsClear", "clearGroup": "IsClearGroup", "scanFine": "IsScanFine"}
+# Parameters that several files name alike.
+PARAMETERS = ["atA", "freeNext", "lowCurrent", "lowNext", "onlyCurrent", "onlyNext", "wordCap", "searchCap", "positionCap", "wordsAfter", "flagsAfter"]
 # A lemma that would have its function's name ends in `_lem`.
 LEMMAS = {"length-at": "length_at_lem"}
 
@@ -59,11 +61,11 @@ def declared(text):
 def own_names():
     names = []
     for path in files(".antt"):
-        if not path.endswith("/Proof.antt"):
+        if os.path.basename(path) not in ("Proof.antt", "Invariants.antt", "Answers.antt"):
             names += [n for n in declared(read(path)) if not n[0].isupper()]
     # Functions come first, in whichever form they were; then names that are in snake case already; then the other lemmas.
     order = lambda n: (2 if "-" in n else 1 if snake(n) == n else 0, n)
-    own, came = {}, {}
+    own, came = {name: snake(name) for name in PARAMETERS}, {}
     for name in sorted(set(names), key=order):
         to = LEMMAS.get(name) or TYPES.get(name) or snake(name)
         if to in came:
@@ -99,7 +101,8 @@ def main():
         def turn(m):
             name = m.group(0)
             near = text[m.start() - 1 : m.start()] + text[m.end() : m.end() + 1]
-            if name == "clear" and (path.endswith(".rt") or "." in near):
+            line = text[text.rfind("\n", 0, m.start()) + 1 : m.start()].lstrip()
+            if name == "clear" and (path.endswith(".rt") or "." in near or line.startswith("--")):
                 return name
             return own[name] if name in own and name not in leave else name
 

@@ -18,7 +18,7 @@ use Rattle.elastic.specs.Reading.{reading_of, vacant_at, holds_at, seek_by, seek
 use Rattle.elastic_query.specs.declared.query.Finding.{Finding}
 use Rattle.elastic_query.specs.declared.query.QueryAnswer.{QueryAnswer}
 use Rattle.elastic_query.specs.declared.query.QueryAnswer.TheVariants as query
-use Rattle.elastic_query.specs.Query.{positionsOf, query_of}
+use Rattle.elastic_query.specs.Query.{positions_of, query_of}
 use Rattle.elastic_steps.specs.declared.answer.Insertion.{Insertion}
 use Rattle.elastic_steps.specs.declared.answer.InsertAnswer.TheVariants as answer
 use Rattle.elastic_steps.specs.Insert.{Done, counted, added_to, insertion_of, insert_of}
@@ -195,7 +195,7 @@ answers_found a f (refused position r some l m) e = never (cc)
 
 module _ {n e seed : ℕ} {limits : Limits} {st : State} {cs ws fs : List ℕ} (r : Reached n e seed limits st cs ws fs) (id : ℕ) where
   -- a query of a table from fresh is its walk: no test refuses it
-  pub query_walks : query_of st cs ws fs id ≡ positionsOf (route_of st id) (holds_at ws fs id) st.plan.levels st.limits.hit_query_position_cap
+  pub query_walks : query_of st cs ws fs id ≡ positions_of (route_of st id) (holds_at ws fs id) st.plan.levels st.limits.hit_query_position_cap
   unfolding query_of
   query_walks = rw (reached_gate r)
 

@@ -15,7 +15,7 @@ use Rattle.words.specs.Pick.{pick}
 use Rattle.elastic_query.specs.declared.query.Finding.{Finding}
 use Rattle.elastic_query.specs.declared.query.QueryAnswer.{QueryAnswer}
 use Rattle.elastic_query.specs.declared.query.QueryAnswer.TheVariants as query
-use Rattle.elastic_query.specs.Query.{within, found_at, Tally, nothing, counted, walk_by, walk_of, positionsOf}
+use Rattle.elastic_query.specs.Query.{within, found_at, Tally, nothing, counted, walk_by, walk_of, positions_of}
 use Rattle.elastic_insert.specs.TableLaws.{never}
 use Rattle.elastic_laws.specs.Lookup.{read_at, Answers, found, refused, Unanswered, absent, stopped}
 
@@ -59,8 +59,8 @@ module _ (route : ℕ → ℕ → Reading) (holds : ℕ → Bool) (levels slot l
 
   -- where a probe of a level reads the slot, the query answers by phi of the two
   pub positions_answer : (level probe cap : ℕ) → level < levels → last ≡ phi (level + 1) (probe + 1) → last ≤ cap → route level probe ≡ reading.Slot slot words
-      → Answers (read_at route levels) slot last (positionsOf route holds levels cap)
-  unfolding positionsOf
+      → Answers (read_at route levels) slot last (positions_of route holds levels cap)
+  unfolding positions_of
   positions_answer level probe cap has is near e =
       let c : coords_of last ≡ at (level + 1) (probe + 1) = ap coords_of is ∙ coords_phi (level + 1) (probe + 1) (omega arith) (omega arith) in
       let a : level + 1 - 1 ≡ level = omega arith in
@@ -92,8 +92,8 @@ module _ (route : ℕ → ℕ → Reading) (holds : ℕ → Bool) (levels : ℕ)
       step (reading.Slot s w) g on = by (within levels (coords_of p)) s w (walk_of route holds levels tries (p + 1)) (holds s) refl g on
 
   -- a query that answers a slot answers one that holds the identity, at a position within the cap
-  pub positions_found : (cap : ℕ) (f : Finding) → positionsOf route holds levels cap ≡ query.Found f → (holds f.global_slot.0 ≡ true) × (0 < f.position) × (f.position ≤ cap)
-  unfolding positionsOf
+  pub positions_found : (cap : ℕ) (f : Finding) → positions_of route holds levels cap ≡ query.Found f → (holds f.global_slot.0 ≡ true) × (0 < f.position) × (f.position ≤ cap)
+  unfolding positions_of
   positions_found cap f h = let r = walk_found cap 1 nothing f h in (r.0, omega (arith, r.1), omega (arith, r.2))
 
   module _ (none : (s : ℕ) → holds s ≡ false) where
@@ -108,6 +108,6 @@ module _ (route : ℕ → ℕ → Reading) (holds : ℕ → Bool) (levels : ℕ)
         step (reading.Slot s w) e on = rw (none s) (on _)
 
     -- a query of an identity that no slot holds answers none
-    pub positions_unanswered : (cap : ℕ) → Unanswered (read_at route levels) cap (positionsOf route holds levels cap)
-    unfolding positionsOf
+    pub positions_unanswered : (cap : ℕ) → Unanswered (read_at route levels) cap (positions_of route holds levels cap)
+    unfolding positions_of
     positions_unanswered cap = walk_unanswered cap 1 cap nothing (omega arith) (omega arith)

@@ -80,13 +80,13 @@ module _ (route : ℕ → ℕ → Reading) (holds : ℕ → Bool) (levels : ℕ)
       (route (level_of (within levels (coords_of position))) (probe_of (within levels (coords_of position))))
       (walk_of tries (position + 1))
 
-  unfoldable pub positionsOf : (cap : ℕ) → QueryAnswer
-  positionsOf cap = walk_of cap 1 nothing
+  unfoldable pub positions_of : (cap : ℕ) → QueryAnswer
+  positions_of cap = walk_of cap 1 nothing
 
 -- the walk of an identity over all positions up to the cap
 abbrev pub look_of : State → (ws fs : List ℕ) → (id : ℕ) → QueryAnswer
 look_of st ws fs id =
-    positionsOf (reading_of st.n (elastic_key_of st.seed id) st.limits.range_word_cap) (holds_at ws fs id) st.plan.levels st.limits.hit_query_position_cap
+    positions_of (reading_of st.n (elastic_key_of st.seed id) st.limits.range_word_cap) (holds_at ws fs id) st.plan.levels st.limits.hit_query_position_cap
 
 abbrev pub query_by : Gated → State → List ℕ → List ℕ → (id : ℕ) → QueryAnswer
 query_by (gated.Refused g) st ws fs id = answer.Refused g

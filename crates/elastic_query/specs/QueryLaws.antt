@@ -28,7 +28,7 @@ use Rattle.elastic_query.specs.declared.query.Scan.{Scan}
 use Rattle.elastic_query.specs.declared.query.Scan.TheVariants as scan
 use Rattle.elastic.specs.State.{gate_of, Valid}
 use Rattle.elastic.specs.Reading.{reading_of, holds_at, Probed}
-use Rattle.elastic_query.specs.Query.{within, walk_of, positionsOf, look_of, query_of}
+use Rattle.elastic_query.specs.Query.{within, walk_of, positions_of, look_of, query_of}
 use Rattle.elastic_query.specs.QuerySteps.{from, charged, Missed, Fine, Scanned, Queried, Scanning, Visiting, end_of}
 
 -- ---- the walk, position by position
@@ -133,24 +133,24 @@ module _ (route : ℕ → ℕ → Reading) (holds : ℕ → Bool) (levels cap : 
     positive : cap ≡ suc (cap - 1)
     positive = omega arith
 
-    pub first_refused : (r : RangeRefusal) → route 0 0 ≡ reading.Refused r → answer.Range r ≡ positionsOf route holds levels cap
-    unfolding positionsOf walk_of
+    pub first_refused : (r : RangeRefusal) → route 0 0 ≡ reading.Refused r → answer.Range r ≡ positions_of route holds levels cap
+    unfolding positions_of walk_of
     first_refused r n = sym (rw (positive, one_gap, n))
 
     module _ (slot words : ℕ) (is : route 0 0 ≡ reading.Slot slot words) where
       pub first_hit : holds slot ≡ true
-          → answer.Found (record { position = 1; global_slot = record { 0 = slot }; mapped = 0; gap = 1; words = words }) ≡ positionsOf route holds levels cap
-      unfolding positionsOf walk_of
+          → answer.Found (record { position = 1; global_slot = record { 0 = slot }; mapped = 0; gap = 1; words = words }) ≡ positions_of route holds levels cap
+      unfolding positions_of walk_of
       first_hit n = sym (rw (positive, one_gap, is, n, zero-add words))
 
-      first_on : holds slot ≡ false → positionsOf route holds levels cap ≡ from route holds levels cap 2 0 words
-      unfolding positionsOf walk_of from
+      first_on : holds slot ≡ false → positions_of route holds levels cap ≡ from route holds levels cap 2 0 words
+      unfolding positions_of walk_of from
       first_on n =
           let d : suc (cap - 1) + 1 - 2 ≡ cap - 1 = omega arith in
           rw (positive, one_gap, is, n, zero-add words, d)
 
       -- and so is the second
-      pub first_miss : (x : QueryAnswer) → holds slot ≡ false → x ≡ from route holds levels cap 3 0 words → x ≡ positionsOf route holds levels cap
+      pub first_miss : (x : QueryAnswer) → holds slot ≡ false → x ≡ from route holds levels cap 3 0 words → x ≡ positions_of route holds levels cap
       first_miss x n e =
           let m : Missed route holds 0 0 = record { slot = slot; words = words; is = is; other = n } in
           e ∙ sym (first_on n ∙ from_gap m 2 0 words (omega arith) (ap (within levels) two_gap))
@@ -287,7 +287,7 @@ module _ {route : ℕ → ℕ → Reading} {holds : ℕ → Bool} {levels cap b 
         }
 
 -- a level and a probe that a mapped position has, in a table that can be queried
-pub queried_probed : {n last wordCap cap words flags : ℕ} → Queried n last wordCap cap words flags → (level : ℕ) → level ≤ last → Probed n last wordCap level
+pub queried_probed : {n last word_cap cap words flags : ℕ} → Queried n last word_cap cap words flags → (level : ℕ) → level ≤ last → Probed n last word_cap level
 queried_probed k level h = record { least = k.least; most = k.most; last_is = k.last_is; has = h; few = k.few }
 
 -- the loop's invariant
@@ -381,5 +381,5 @@ module _ (st : State) (cs ws fs : List ℕ) (id : ℕ) where
 
 -- the walk by the key and the number of levels that the code has
 pub look_is : (st : State) (ws fs : List ℕ) (id key levels : ℕ) (x : QueryAnswer) → key ≡ elastic_key_of st.seed id → levels ≡ st.plan.levels
-    → x ≡ positionsOf (reading_of st.n key st.limits.range_word_cap) (holds_at ws fs id) levels st.limits.hit_query_position_cap → x ≡ look_of st ws fs id
+    → x ≡ positions_of (reading_of st.n key st.limits.range_word_cap) (holds_at ws fs id) levels st.limits.hit_query_position_cap → x ≡ look_of st ws fs id
 look_is st ws fs id key levels x a b w = w ∙ rw (a, b)

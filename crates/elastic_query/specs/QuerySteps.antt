@@ -50,12 +50,12 @@ pub record Scanned (old : QueryAnswer) (r : Scan) (rest : ℕ → ℕ → QueryA
   pub fine : IsScanFine r e
 
 -- a table that can be queried
-pub record Queried (n last wordCap cap words flags : ℕ) : Type 0 where
+pub record Queried (n last word_cap cap words flags : ℕ) : Type 0 where
   pub least : 2 ≤ n
   pub most : n ≤ 4294967296
   pub last_is : last + 1 ≡ levels_of n
   pub short : last < 32
-  pub few : wordCap ≤ 8
+  pub few : word_cap ≤ 8
   pub near : cap ≤ 984263340
   pub words_size : words ≡ n
   pub flags_size : flags ≡ n

@@ -8,7 +8,7 @@ ghost use Rattle.elastic_probe.specs.TreeLaws.{Node, Next, Ends};
 ghost use Rattle.elastic.specs.State.{Valid};
 ghost use Rattle.elastic.specs.Reading.{reading_of, holds_at};
 ghost use Rattle.lent.specs.Lent.{words_in};
-ghost use Rattle.elastic_query.specs.Query.{positionsOf, look_of, query_of};
+ghost use Rattle.elastic_query.specs.Query.{positions_of, look_of, query_of};
 ghost use Rattle.elastic_query.specs.QuerySteps.{from, charged, end_of, Missed, Scanned, Queried, Scanning, Visiting};
 
 use elastic::route::{Reading, holds, route};
@@ -113,7 +113,7 @@ pub fn look(
 // The walk over positions 1, 2, .. up to the cap.
 fn find(words: &[u64], flags: &[u8], look: Lookup, lent: &[u8], bytes: bool) -> QueryAnswer
     requires { Queried look.n look.last look.word_cap look.cap (length (words_in bytes words.now lent.now)) (length flags.now) × (0 < look.cap) }
-    ensures { result ≡ positionsOf (reading_of look.n look.key look.word_cap) (holds_at (words_in bytes words.now lent.now) flags.now look.id) (look.last + 1) look.cap }
+    ensures { result ≡ positions_of (reading_of look.n look.key look.word_cap) (holds_at (words_in bytes words.now lent.now) flags.now look.id) (look.last + 1) look.cap }
 {
     match route(
         look.key,

@@ -60,11 +60,11 @@ abbrev pub next_low : (length free : ℕ) → Bool
 next_low length free = leb free (length / 4)
 
 -- SCHEDULE: "both active elastic levels low"; "Current low: next. Next low: current. Else budget probes in current, then next uniformly"
-unfoldable pub pair_by : (lowCurrent lowNext : Bool) → (both onlyCurrent onlyNext neither : Chosen) → Chosen
-pair_by true true both onlyCurrent onlyNext neither = both
-pair_by true false both onlyCurrent onlyNext neither = onlyCurrent
-pair_by false true both onlyCurrent onlyNext neither = onlyNext
-pair_by false false both onlyCurrent onlyNext neither = neither
+unfoldable pub pair_by : (low_current low_next : Bool) → (both only_current only_next neither : Chosen) → Chosen
+pair_by true true both only_current only_next neither = both
+pair_by true false both only_current only_next neither = only_current
+pair_by false true both only_current only_next neither = only_next
+pair_by false false both only_current only_next neither = neither
 
 -- "Batch b has current b-1, next b"
 unfoldable pub pair_of : State → (key : ℕ) → List ℕ → List ℕ → (current : ℕ) → Chosen
@@ -73,13 +73,13 @@ pair_of st key cs fs current =
     let cap = st.limits.range_word_cap in
     let tries = st.limits.uniform_search_probe_cap in
     let free = free_at n cs current in
-    let freeNext = free_at n cs (current + 1) in
+    let free_next = free_at n cs (current + 1) in
     let budget = probes_of free (length_at n current) st.e st.limits.probe_budget_c in
-    pair_by (current_low st.e (length_at n current) free) (next_low (length_at n (current + 1)) freeNext)
+    pair_by (current_low st.e (length_at n current) free) (next_low (length_at n (current + 1)) free_next)
     (chosen.Refused refusal.Schedule)
-    (uniform_of n key cap fs tries (Case2 (current + 1) current (current + 1) free freeNext) (current + 1))
-    (uniform_of n key cap fs tries (Case3 (current + 1) current (current + 1) free freeNext) current)
-    (budgeted_of n key cap fs tries budget (Case1 (current + 1) current (current + 1) free freeNext budget) current (current + 1))
+    (uniform_of n key cap fs tries (Case2 (current + 1) current (current + 1) free free_next) (current + 1))
+    (uniform_of n key cap fs tries (Case3 (current + 1) current (current + 1) free free_next) current)
+    (budgeted_of n key cap fs tries budget (Case1 (current + 1) current (current + 1) free free_next budget) current (current + 1))
 
 -- "Batch 0 searches level 0 uniformly"
 unfoldable pub steps_of : State → (key : ℕ) → List ℕ → List ℕ → (batch : ℕ) → Chosen
@@ -156,9 +156,9 @@ insert_of st cs ws fs id = insert_by (gate_of st cs (length ws) (length fs)) st 
 
 abbrev pub case_values : Case → List ℕ
 case_values (Batch0 level) = 0 ∷ 0 ∷ 0 ∷ 0 ∷ 0 ∷ []
-case_values (Case1 batch current next free freeNext budget) = 1 ∷ batch ∷ free ∷ freeNext ∷ budget ∷ []
-case_values (Case2 batch current next free freeNext) = 2 ∷ batch ∷ free ∷ freeNext ∷ 0 ∷ []
-case_values (Case3 batch current next free freeNext) = 3 ∷ batch ∷ free ∷ freeNext ∷ 0 ∷ []
+case_values (Case1 batch current next free free_next budget) = 1 ∷ batch ∷ free ∷ free_next ∷ budget ∷ []
+case_values (Case2 batch current next free free_next) = 2 ∷ batch ∷ free ∷ free_next ∷ 0 ∷ []
+case_values (Case3 batch current next free free_next) = 3 ∷ batch ∷ free ∷ free_next ∷ 0 ∷ []
 
 unfoldable pub refusal_report : InsertRefusal → Report
 refusal_report (refusal.Gate g) = refused (name_of g) []

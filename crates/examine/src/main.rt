@@ -10,7 +10,7 @@
 //     refused      no table can be read: the image is malformed, its n and e have no funnel table, or it is too large
 //     misuse       the arguments are wrong, or the file cannot be read
 //
-// A program of this language has no exit status of its own; `bin/examine` gives one, from that line.
+// This program has no exit status of its own; `bin/examine` gives one, from that line.
 //
 //     main.rt      arguments and the file
 //     table.rt     from the bytes of an image to a loaded table

@@ -14,7 +14,7 @@ use text::buffers::{MOST_SLOTS, word_buffer};
 use text::out::{put, put_byte, put_form};
 
 // Whether an image is well formed, or where it is not.
-#[derive(Drop)]
+#[derive(Clone, Copy)]
 enum Form {
     Right,
     Wrong { place: u64 },

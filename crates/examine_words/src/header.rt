@@ -17,7 +17,7 @@ pub struct Given {
     pub word_cap: u64,
 }
 
-#[derive(Drop)]
+#[derive(Clone, Copy)]
 pub enum Header {
     Read(Given),
     Missing,

@@ -4,7 +4,7 @@ use refusal::{Gate, Name};
 use text::out::{put, put_form};
 
 // What the check says of a table.
-#[derive(Drop)]
+#[derive(Clone, Copy)]
 pub enum Verdict {
     Accepted,
     Gate(Gate),
@@ -14,7 +14,7 @@ pub enum Verdict {
 
 // Where the check is stuck: members placed, the smallest occupied slot that is not, what it holds, and what a search for that
 // meets.
-#[derive(Drop)]
+#[derive(Clone, Copy)]
 pub struct Stuck {
     pub placed: u64,
     pub slot: u64,
@@ -23,7 +23,7 @@ pub struct Stuck {
 }
 
 // What a search meets: its kind, and a number.
-#[derive(Drop)]
+#[derive(Clone, Copy)]
 pub struct Met {
     pub kind: u8,
     pub number: u64,

@@ -47,20 +47,20 @@ module _ {table : FunnelTable} {counts words flags : List ℕ} (valid : Valid ta
       }
 
 module _ (table : FunnelTable) (counts words flags : List ℕ) (identity : ℕ) where
-  abbrev pub levelsPart : Path
-  levelsPart = levels_from table.plan counts table.seed table.word_cap identity 0 table.plan.alpha
+  abbrev pub levels_part : Path
+  levels_part = levels_from table.plan counts table.seed table.word_cap identity 0 table.plan.alpha
 
-  abbrev pub primaryPart : ℕ → Path
-  primaryPart start = primary_from table.plan start table.seed table.word_cap identity 0 table.plan.loglog_ceiling
+  abbrev pub primary_part : ℕ → Path
+  primary_part start = primary_from table.plan start table.seed table.word_cap identity 0 table.plan.loglog_ceiling
 
-  abbrev pub fallbackPart : ℕ → Path
-  fallbackPart start = fallback_of table.plan start table.seed table.word_cap identity
+  abbrev pub fallback_part : ℕ → Path
+  fallback_part start = fallback_of table.plan start table.seed table.word_cap identity
 
-  module _ (r : Search) (is-r : r ≡ search_of words flags identity levelsPart 0) where
+  module _ (r : Search) (is-r : r ≡ search_of words flags identity levels_part 0) where
     pub find_levels : find_of table counts words flags identity
-        ≡ resume words flags identity (join (primaryPart (primary_start table.plan counts)) (fallbackPart (fallback_start table.plan counts))) r
+        ≡ resume words flags identity (join (primary_part (primary_start table.plan counts)) (fallback_part (fallback_start table.plan counts))) r
     unfolding find_of path_of
-    find_levels = rw is-r (search_join words flags identity levelsPart _ 0)
+    find_levels = rw is-r (search_join words flags identity levels_part _ 0)
 
     module _ (valid : Valid table counts words flags) (j : ℕ) (past : r ≡ Full j) where
       levels_most : j ≤ 6372
@@ -68,17 +68,17 @@ module _ (table : FunnelTable) (counts words flags : List ℕ) (identity : ℕ) 
           let f = plan_facts valid.planned in
           let l = levels_length table.plan counts table.seed table.word_cap identity 0 table.plan.alpha in
           let m : table.plan.alpha * table.plan.beta ≤ table.plan.alpha * 54 = mul-le-mul_left table.plan.alpha (omega arith) in
-          omega (arith, search_full words flags identity levelsPart 0 j (sym is-r ∙ past))
+          omega (arith, search_full words flags identity levels_part 0 j (sym is-r ∙ past))
 
       pub primary_ready : SpecialRoom table (table.n - table.plan.special_len) table.plan.special_primary_len (length words) (length flags) j
       primary_ready = let m = levels_most in primary_room_of valid j (omega arith)
 
-      module _ (q : Search) (is-q : q ≡ search_of words flags identity (primaryPart (table.n - table.plan.special_len)) j) where
-        pub find_primary : find_of table counts words flags identity ≡ resume words flags identity (fallbackPart (fallback_start table.plan counts)) q
+      module _ (q : Search) (is-q : q ≡ search_of words flags identity (primary_part (table.n - table.plan.special_len)) j) where
+        pub find_primary : find_of table counts words flags identity ≡ resume words flags identity (fallback_part (fallback_start table.plan counts)) q
         unfolding resume
         find_primary =
             find_levels
-            ∙ rw (past, is-q, ← primary_start_lem valid.planned) (search_join words flags identity (primaryPart (primary_start table.plan counts)) (fallbackPart (fallback_start table.plan counts)) j)
+            ∙ rw (past, is-q, ← primary_start_lem valid.planned) (search_join words flags identity (primary_part (primary_start table.plan counts)) (fallback_part (fallback_start table.plan counts)) j)
 
         module _ (m : ℕ) (past-q : q ≡ Full m) where
           pub fallback_ready : SpecialRoom table (table.n - table.plan.special_len + table.plan.special_primary_len)
@@ -87,10 +87,10 @@ module _ (table : FunnelTable) (counts words flags : List ℕ) (identity : ℕ) 
               let f = plan_facts valid.planned in
               let l = levels_most in
               let p = primary_length table.plan counts table.seed table.word_cap identity (table.n - table.plan.special_len) 0 table.plan.loglog_ceiling in
-              let s = search_full words flags identity (primaryPart (table.n - table.plan.special_len)) j m (sym is-q ∙ past-q) in
+              let s = search_full words flags identity (primary_part (table.n - table.plan.special_len)) j m (sym is-q ∙ past-q) in
               fallback_room_of valid m (omega arith)
 
-          pub find_fallback : (x : Search) → x ≡ search_of words flags identity (fallbackPart (table.n - table.plan.special_len + table.plan.special_primary_len)) m
+          pub find_fallback : (x : Search) → x ≡ search_of words flags identity (fallback_part (table.n - table.plan.special_len + table.plan.special_primary_len)) m
               → x ≡ find_of table counts words flags identity
           unfolding resume
           find_fallback x e = e ∙ sym (find_primary ∙ rw (past-q, primary_start_lem valid.planned))

@@ -65,10 +65,10 @@ settled_of (insertion.Exhausted probes) index = settled.Refused (placement.Exhau
 settled_of (insertion.Full probes) index = settled.Refused (placement.Full index probes)
 
 -- that an answer and both buffers are what the insertion of the identity at an index comes to
-pub record Settles (table : FunnelTable) (counts words flags : List ℕ) (identity index : ℕ) (answer : Settled) (wordsAfter flagsAfter : List ℕ) : Type 0 where
+pub record Settles (table : FunnelTable) (counts words flags : List ℕ) (identity index : ℕ) (answer : Settled) (words_after flags_after : List ℕ) : Type 0 where
   pub told : answer ≡ settled_of (insert_of table counts words flags identity).answer index
-  pub words_are_lem : wordsAfter ≡ (insert_of table counts words flags identity).words
-  pub flags_are_lem : flagsAfter ≡ (insert_of table counts words flags identity).flags
+  pub words_are_lem : words_after ≡ (insert_of table counts words flags identity).words
+  pub flags_are_lem : flags_after ≡ (insert_of table counts words flags identity).flags
 
 -- what a placement of many identities leaves: `slots` holds the slot of each, as far as it came
 pub record Placed : Type 0 where

@@ -45,11 +45,11 @@ module _ (plan : FunnelPlan) (counts : List ℕ) (seed cap identity : ℕ) where
           omega (arith, length-append (bucket_from level i (from i) 0 plan.beta) rest.places, bucket_length level i (from i) 0 plan.beta, suc-mul levels plan.beta)
 
   -- and so are the g primary probes
-  pub primary_whole : (start probe probes : ℕ) → (primary_from plan start seed cap identity probe probes).ending ≡ full
+  pub primary_whole_lem : (start probe probes : ℕ) → (primary_from plan start seed cap identity probe probes).ending ≡ full
       → length (primary_from plan start seed cap identity probe probes).places ≡ probes
   unfolding primary_from join
-  primary_whole start probe zero h = refl
-  primary_whole start probe (suc probes) h = go (funnel_draw_of seed identity domain.Primary probe plan.special_primary_len cap) h (primary_whole start (suc probe) probes)
+  primary_whole_lem start probe zero h = refl
+  primary_whole_lem start probe (suc probes) h = go (funnel_draw_of seed identity domain.Primary probe plan.special_primary_len cap) h (primary_whole_lem start (suc probe) probes)
     where
       rest : Path
       rest = primary_from plan start seed cap identity (suc probe) probes
@@ -84,23 +84,23 @@ module _ (plan : FunnelPlan) (counts : List ℕ) (seed cap identity : ℕ) where
       go (drawn.Index a w) p (drawn.Index b x) q = inr (record { a = a; b = b; words_a = w; words_b = x; drawn_a = p; drawn_b = q; pairs = rw (p, q) })
 
 -- "slot by slot, A before B", also where A is B
-pub pairs_a : (a b atA at_b j w i : ℕ) (d : Place) → i < w → get_or (pairs_from a b atA at_b j w) (2 * i) d ≡ place.SpecialFallback a (j + i) (record { 0 = atA + (j + i) })
+pub pairs_a : (a b at_a at_b j w i : ℕ) (d : Place) → i < w → get_or (pairs_from a b at_a at_b j w) (2 * i) d ≡ place.SpecialFallback a (j + i) (record { 0 = at_a + (j + i) })
 unfolding pairs_from
-pairs_a a b atA at_b j zero i d h = absurd (omega arith)
-pairs_a a b atA at_b j (suc w) zero d h = let e : j + 0 ≡ j = omega arith in rw e
-pairs_a a b atA at_b j (suc w) (suc i) d h =
+pairs_a a b at_a at_b j zero i d h = absurd (omega arith)
+pairs_a a b at_a at_b j (suc w) zero d h = let e : j + 0 ≡ j = omega arith in rw e
+pairs_a a b at_a at_b j (suc w) (suc i) d h =
     let e : 2 * suc i ≡ suc (suc (2 * i)) = omega arith in
     let f : suc j + i ≡ j + suc i = omega arith in
-    rw (e, ← f) (pairs_a a b atA at_b (suc j) w i d (omega arith))
+    rw (e, ← f) (pairs_a a b at_a at_b (suc j) w i d (omega arith))
 
-pub pairs_b : (a b atA at_b j w i : ℕ) (d : Place) → i < w → get_or (pairs_from a b atA at_b j w) (2 * i + 1) d ≡ place.SpecialFallback b (j + i) (record { 0 = at_b + (j + i) })
+pub pairs_b : (a b at_a at_b j w i : ℕ) (d : Place) → i < w → get_or (pairs_from a b at_a at_b j w) (2 * i + 1) d ≡ place.SpecialFallback b (j + i) (record { 0 = at_b + (j + i) })
 unfolding pairs_from
-pairs_b a b atA at_b j zero i d h = absurd (omega arith)
-pairs_b a b atA at_b j (suc w) zero d h = let e : j + 0 ≡ j = omega arith in rw e
-pairs_b a b atA at_b j (suc w) (suc i) d h =
+pairs_b a b at_a at_b j zero i d h = absurd (omega arith)
+pairs_b a b at_a at_b j (suc w) zero d h = let e : j + 0 ≡ j = omega arith in rw e
+pairs_b a b at_a at_b j (suc w) (suc i) d h =
     let e : 2 * suc i + 1 ≡ suc (suc (2 * i + 1)) = omega arith in
     let f : suc j + i ≡ j + suc i = omega arith in
-    rw (e, ← f) (pairs_b a b atA at_b (suc j) w i d (omega arith))
+    rw (e, ← f) (pairs_b a b at_a at_b (suc j) w i d (omega arith))
 
 -- a path is its ordinary places, rising; after all of these the primary ones; after all of these the fallback ones
 pub record Parts (n : ℕ) (plan : FunnelPlan) (counts : List ℕ) (places : List Place) : Type 0 where
@@ -144,7 +144,7 @@ path_parts {n} {e} {plan} {counts} is seed cap identity = go l.ending refl p.end
           primary_in = primary_between is seed cap identity 0 plan.loglog_ceiling;
           fallback_in = fallback_between is seed cap identity;
           after_ordinary = λ h. levels_whole plan counts seed cap identity 0 plan.alpha hl;
-          after_primary = λ h. primary_whole plan counts seed cap identity (primary_start plan counts) 0 plan.loglog_ceiling hp;
+          after_primary = λ h. primary_whole_lem plan counts seed cap identity (primary_start plan counts) 0 plan.loglog_ceiling hp;
         }
     go full hl (refused refusal) hp =
         record {

@@ -78,11 +78,11 @@ primary_from plan start seed cap identity probe (suc probes) =
     sampled (funnel_draw_of seed identity domain.Primary probe plan.special_primary_len cap)
     (λ s. join (run (place.SpecialPrimary s (record { 0 = start + s }) ∷ [])) (primary_from plan start seed cap identity (suc probe) probes))
 
--- "slot by slot, A before B": w slots of the buckets a and b that start at `atA` and `at_b`, from their slot i on
-unfoldable pub pairs_from : (a b atA at_b i w : ℕ) → List Place
-pairs_from a b atA at_b i zero = []
-pairs_from a b atA at_b i (suc w) =
-    place.SpecialFallback a i (record { 0 = atA + i }) ∷ place.SpecialFallback b i (record { 0 = at_b + i }) ∷ pairs_from a b atA at_b (suc i) w
+-- "slot by slot, A before B": w slots of the buckets a and b that start at `at_a` and `at_b`, from their slot i on
+unfoldable pub pairs_from : (a b at_a at_b i w : ℕ) → List Place
+pairs_from a b at_a at_b i zero = []
+pairs_from a b at_a at_b i (suc w) =
+    place.SpecialFallback a i (record { 0 = at_a + i }) ∷ place.SpecialFallback b i (record { 0 = at_b + i }) ∷ pairs_from a b at_a at_b (suc i) w
 
 -- "then buckets A and B both sampled", among the fallback buckets from `start` on
 unfoldable pub fallback_of : FunnelPlan → (start seed cap identity : ℕ) → Path

@@ -26,10 +26,10 @@ unfolding bucket_from
 bucket_length level bucket from i zero = refl
 bucket_length level bucket from i (suc w) = ap suc (bucket_length level bucket from (suc i) w)
 
-pub pairs_length : (a b atA at_b i w : ℕ) → length (pairs_from a b atA at_b i w) ≡ 2 * w
+pub pairs_length : (a b at_a at_b i w : ℕ) → length (pairs_from a b at_a at_b i w) ≡ 2 * w
 unfolding pairs_from
-pairs_length a b atA at_b i zero = refl
-pairs_length a b atA at_b i (suc w) = let h = pairs_length a b atA at_b (suc i) w in omega arith
+pairs_length a b at_a at_b i zero = refl
+pairs_length a b at_a at_b i (suc w) = let h = pairs_length a b at_a at_b (suc i) w in omega arith
 
 pub join_length : (p q : Path) → length (join p q).places ≤ length p.places + length q.places
 unfolding join
@@ -107,11 +107,11 @@ bucket_rising level bucket from i (suc w) =
     let r : Rising (from + suc i) (from + suc i + w) (bucket_from level bucket from (suc i) w) = bucket_rising level bucket from (suc i) w in
     (omega arith, rw (← f, ← e) r)
 
-pub pairs_between : (lo hi a b atA at_b i w : ℕ) → lo ≤ atA → lo ≤ at_b → atA + i + w ≤ hi → at_b + i + w ≤ hi → Every (Between lo hi) (pairs_from a b atA at_b i w)
+pub pairs_between : (lo hi a b at_a at_b i w : ℕ) → lo ≤ at_a → lo ≤ at_b → at_a + i + w ≤ hi → at_b + i + w ≤ hi → Every (Between lo hi) (pairs_from a b at_a at_b i w)
 unfolding pairs_from Every
-pairs_between lo hi a b atA at_b i zero l m g h = tt
-pairs_between lo hi a b atA at_b i (suc w) l m g h =
-    (record { from = omega arith; to = omega arith }, (record { from = omega arith; to = omega arith }, pairs_between lo hi a b atA at_b (suc i) w l m (omega arith) (omega arith)))
+pairs_between lo hi a b at_a at_b i zero l m g h = tt
+pairs_between lo hi a b at_a at_b i (suc w) l m g h =
+    (record { from = omega arith; to = omega arith }, (record { from = omega arith; to = omega arith }, pairs_between lo hi a b at_a at_b (suc i) w l m (omega arith) (omega arith)))
 
 -- the places of a join are those of the first, or of both
 pub join_every : (P : Place → Type 0) (p q : Path) → Every P p.places → Every P q.places → Every P (join p q).places

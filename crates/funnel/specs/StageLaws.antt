@@ -86,20 +86,20 @@ drew_below inner outer d probe u cap {i} {w} pos e h = (domain_draw_index inner 
 
 module _ (plan : FunnelPlan) (counts words flags : List ℕ) (seed cap identity : ℕ) where
   -- the levels from one on
-  abbrev pub levelsOn : ℕ → Path
-  levelsOn level = levels_from plan counts seed cap identity level (plan.alpha - level)
+  abbrev pub levels_on : ℕ → Path
+  levels_on level = levels_from plan counts seed cap identity level (plan.alpha - level)
 
   pub record LevelsLeft (level k : ℕ) : Type 0 where
-    pub left : search_of words flags identity (levels_from plan counts seed cap identity 0 plan.alpha) 0 ≡ search_of words flags identity (levelsOn level) k
+    pub left : search_of words flags identity (levels_from plan counts seed cap identity 0 plan.alpha) 0 ≡ search_of words flags identity (levels_on level) k
 
   pub levels_none : LevelsLeft 0 0
   levels_none = record { left = let e : plan.alpha - 0 ≡ plan.alpha = omega arith in rw e }
 
   -- one level more, as a loop that counts up goes
   levels_step : (level : ℕ) → level < plan.alpha
-      → levelsOn level
+      → levels_on level
       ≡ sampled (funnel_draw_of seed identity (domain.Ordinary level) 0 (get_or counts level 0) cap)
-      (λ bucket. join (run (bucket_from level bucket (level_start plan counts level + bucket * plan.beta) 0 plan.beta)) (levelsOn (level + 1)))
+      (λ bucket. join (run (bucket_from level bucket (level_start plan counts level + bucket * plan.beta) 0 plan.beta)) (levels_on (level + 1)))
   unfolding levels_from
   levels_step level h =
       let e : plan.alpha - level ≡ suc (plan.alpha - (level + 1)) = omega arith in
@@ -115,8 +115,8 @@ module _ (plan : FunnelPlan) (counts words flags : List ℕ) (seed cap identity 
     pub levels_found : (bucket w start : ℕ) (found : Search) → level < plan.alpha → start ≡ level_start plan counts level
         → funnel_draw_of seed identity (domain.Ordinary level) 0 (get_or counts level 0) cap ≡ drawn.Index bucket w
         → found ≡ search_of words flags identity (run (bucket_from level bucket (start + bucket * plan.beta) 0 plan.beta)) k
-        → search_of words flags identity (levels_from plan counts seed cap identity 0 plan.alpha) 0 ≡ resume words flags identity (levelsOn (level + 1)) found
-    levels_found bucket w start found h s d f = l.left ∙ rw (levels_step level h, d, f, s) (search_join words flags identity _ (levelsOn (level + 1)) k)
+        → search_of words flags identity (levels_from plan counts seed cap identity 0 plan.alpha) 0 ≡ resume words flags identity (levels_on (level + 1)) found
+    levels_found bucket w start found h s d f = l.left ∙ rw (levels_step level h, d, f, s) (search_join words flags identity _ (levels_on (level + 1)) k)
 
     pub levels_end : plan.alpha ≤ level → Full k ≡ search_of words flags identity (levels_from plan counts seed cap identity 0 plan.alpha) 0
     unfolding levels_from
@@ -148,22 +148,22 @@ module _ (words flags : List ℕ) (identity : ℕ) (p : Place) (k at : ℕ) (is 
 
 module _ (plan : FunnelPlan) (start : ℕ) (words flags : List ℕ) (seed cap identity before : ℕ) where
   -- the probes from one on
-  abbrev pub primaryOn : ℕ → Path
-  primaryOn probe = primary_from plan start seed cap identity probe (plan.loglog_ceiling - probe)
+  abbrev pub primary_on : ℕ → Path
+  primary_on probe = primary_from plan start seed cap identity probe (plan.loglog_ceiling - probe)
 
-  abbrev primaryWhole : Search
-  primaryWhole = search_of words flags identity (primary_from plan start seed cap identity 0 plan.loglog_ceiling) before
+  abbrev primary_whole : Search
+  primary_whole = search_of words flags identity (primary_from plan start seed cap identity 0 plan.loglog_ceiling) before
 
   pub record PrimaryLeft (probe k : ℕ) : Type 0 where
-    pub left : primaryWhole ≡ search_of words flags identity (primaryOn probe) k
+    pub left : primary_whole ≡ search_of words flags identity (primary_on probe) k
 
   pub primary_none : PrimaryLeft 0 before
   primary_none = record { left = let e : plan.loglog_ceiling - 0 ≡ plan.loglog_ceiling = omega arith in rw e }
 
   primary_step : (probe : ℕ) → probe < plan.loglog_ceiling
-      → primaryOn probe
+      → primary_on probe
       ≡ sampled (funnel_draw_of seed identity domain.Primary probe plan.special_primary_len cap)
-      (λ s. join (run (place.SpecialPrimary s (record { 0 = start + s }) ∷ [])) (primaryOn (probe + 1)))
+      (λ s. join (run (place.SpecialPrimary s (record { 0 = start + s }) ∷ [])) (primary_on (probe + 1)))
   unfolding primary_from
   primary_step probe h =
       let e : plan.loglog_ceiling - probe ≡ suc (plan.loglog_ceiling - (probe + 1)) = omega arith in
@@ -172,36 +172,36 @@ module _ (plan : FunnelPlan) (start : ℕ) (words flags : List ℕ) (seed cap id
 
   module _ {probe k : ℕ} (l : PrimaryLeft probe k) where
     pub primary_refused : (refusal : RangeRefusal) → probe < plan.loglog_ceiling
-        → funnel_draw_of seed identity domain.Primary probe plan.special_primary_len cap ≡ drawn.Refused refusal → Range refusal ≡ primaryWhole
+        → funnel_draw_of seed identity domain.Primary probe plan.special_primary_len cap ≡ drawn.Refused refusal → Range refusal ≡ primary_whole
     primary_refused refusal h d = sym (l.left ∙ rw (primary_step probe h, d) (search_stopped words flags identity refusal k))
 
     pub primary_found : (s w : ℕ) (found : Search) → probe < plan.loglog_ceiling
         → funnel_draw_of seed identity domain.Primary probe plan.special_primary_len cap ≡ drawn.Index s w
         → found ≡ search_of words flags identity (run (place.SpecialPrimary s (record { 0 = start + s }) ∷ [])) k
-        → primaryWhole ≡ resume words flags identity (primaryOn (probe + 1)) found
-    primary_found s w found h d f = l.left ∙ rw (primary_step probe h, d, f) (search_join words flags identity _ (primaryOn (probe + 1)) k)
+        → primary_whole ≡ resume words flags identity (primary_on (probe + 1)) found
+    primary_found s w found h d f = l.left ∙ rw (primary_step probe h, d, f) (search_join words flags identity _ (primary_on (probe + 1)) k)
 
-    pub primary_end : plan.loglog_ceiling ≤ probe → Full k ≡ primaryWhole
+    pub primary_end : plan.loglog_ceiling ≤ probe → Full k ≡ primary_whole
     unfolding primary_from
     primary_end h = sym (l.left ∙ (let z : plan.loglog_ceiling - probe ≡ 0 = omega arith in rw z (search_none words flags identity k)))
 
 -- ---- the fallback buckets, slot by slot
 
-module _ (words flags : List ℕ) (identity a b atA at_b w before : ℕ) where
-  abbrev pub pairsOn : ℕ → List Place
-  pairsOn i = pairs_from a b atA at_b i (w - i)
+module _ (words flags : List ℕ) (identity a b at_a at_b w before : ℕ) where
+  abbrev pub pairs_on : ℕ → List Place
+  pairs_on i = pairs_from a b at_a at_b i (w - i)
 
-  abbrev pairsWhole : Search
-  pairsWhole = search_of words flags identity (run (pairs_from a b atA at_b 0 w)) before
+  abbrev pairs_whole : Search
+  pairs_whole = search_of words flags identity (run (pairs_from a b at_a at_b 0 w)) before
 
   pub record PairsLeft (i k : ℕ) : Type 0 where
-    pub left : pairsWhole ≡ search_of words flags identity (run (pairsOn i)) k
+    pub left : pairs_whole ≡ search_of words flags identity (run (pairs_on i)) k
 
   pub pairs_none : PairsLeft 0 before
   pairs_none = record { left = let e : w - 0 ≡ w = omega arith in rw e }
 
   pairs_step : (i : ℕ) → i < w
-      → pairsOn i ≡ place.SpecialFallback a i (record { 0 = atA + i }) ∷ place.SpecialFallback b i (record { 0 = at_b + i }) ∷ pairsOn (i + 1)
+      → pairs_on i ≡ place.SpecialFallback a i (record { 0 = at_a + i }) ∷ place.SpecialFallback b i (record { 0 = at_b + i }) ∷ pairs_on (i + 1)
   unfolding pairs_from
   pairs_step i h =
       let e : w - i ≡ suc (w - (i + 1)) = omega arith in
@@ -209,43 +209,43 @@ module _ (words flags : List ℕ) (identity a b atA at_b w before : ℕ) where
       rw (e, ← f)
 
   module _ {i k : ℕ} (l : PairsLeft i k) where
-    pub pairs_a : (found : Search) → i < w → found ≡ search_of words flags identity (run (place.SpecialFallback a i (record { 0 = atA + i }) ∷ [])) k
-        → pairsWhole ≡ resume words flags identity (run (place.SpecialFallback b i (record { 0 = at_b + i }) ∷ pairsOn (i + 1))) found
+    pub pairs_a : (found : Search) → i < w → found ≡ search_of words flags identity (run (place.SpecialFallback a i (record { 0 = at_a + i }) ∷ [])) k
+        → pairs_whole ≡ resume words flags identity (run (place.SpecialFallback b i (record { 0 = at_b + i }) ∷ pairs_on (i + 1))) found
     pairs_a found h f = l.left ∙ rw (pairs_step i h, f) (search_cons words flags identity _ _ k)
 
-    pub pairs_b : (found other : Search) (j : ℕ) → i < w → found ≡ search_of words flags identity (run (place.SpecialFallback a i (record { 0 = atA + i }) ∷ [])) k
+    pub pairs_b : (found other : Search) (j : ℕ) → i < w → found ≡ search_of words flags identity (run (place.SpecialFallback a i (record { 0 = at_a + i }) ∷ [])) k
         → found ≡ Full j → other ≡ search_of words flags identity (run (place.SpecialFallback b i (record { 0 = at_b + i }) ∷ [])) j
-        → pairsWhole ≡ resume words flags identity (run (pairsOn (i + 1))) other
+        → pairs_whole ≡ resume words flags identity (run (pairs_on (i + 1))) other
     unfolding resume
     pairs_b found other j h f g o =
-        pairs_a found h f ∙ rw (g, o) (search_cons words flags identity _ (pairsOn (i + 1)) j)
+        pairs_a found h f ∙ rw (g, o) (search_cons words flags identity _ (pairs_on (i + 1)) j)
 
-    pub pairs_end : w ≤ i → Full k ≡ pairsWhole
+    pub pairs_end : w ≤ i → Full k ≡ pairs_whole
     unfolding pairs_from
     pairs_end h = sym (l.left ∙ (let z : w - i ≡ 0 = omega arith in rw z (search_none words flags identity k)))
 
 -- ---- the choice of the two
 
 module _ (plan : FunnelPlan) (start : ℕ) (words flags : List ℕ) (seed cap identity before : ℕ) where
-  abbrev fallbackWhole : Search
-  fallbackWhole = search_of words flags identity (fallback_of plan start seed cap identity) before
+  abbrev fallback_whole : Search
+  fallback_whole = search_of words flags identity (fallback_of plan start seed cap identity) before
 
-  abbrev drawA : Drawn
-  drawA = funnel_draw_of seed identity domain.FallbackA 0 plan.fallback_bucket_count cap
+  abbrev draw_a : Drawn
+  draw_a = funnel_draw_of seed identity domain.FallbackA 0 plan.fallback_bucket_count cap
 
-  abbrev drawB : Drawn
-  drawB = funnel_draw_of seed identity domain.FallbackB 0 plan.fallback_bucket_count cap
+  abbrev draw_b : Drawn
+  draw_b = funnel_draw_of seed identity domain.FallbackB 0 plan.fallback_bucket_count cap
 
-  pub fallback_refused_a : (refusal : RangeRefusal) → drawA ≡ drawn.Refused refusal → Range refusal ≡ fallbackWhole
+  pub fallback_refused_a : (refusal : RangeRefusal) → draw_a ≡ drawn.Refused refusal → Range refusal ≡ fallback_whole
   unfolding fallback_of
   fallback_refused_a refusal d = sym (rw d (search_stopped words flags identity refusal before))
 
-  pub fallback_refused_b : (refusal : RangeRefusal) (a w : ℕ) → drawA ≡ drawn.Index a w → drawB ≡ drawn.Refused refusal → Range refusal ≡ fallbackWhole
+  pub fallback_refused_b : (refusal : RangeRefusal) (a w : ℕ) → draw_a ≡ drawn.Index a w → draw_b ≡ drawn.Refused refusal → Range refusal ≡ fallback_whole
   unfolding fallback_of
   fallback_refused_b refusal a w d f = sym (rw (d, f) (search_stopped words flags identity refusal before))
 
-  pub fallback_both : (a b w x : ℕ) → drawA ≡ drawn.Index a w → drawB ≡ drawn.Index b x
+  pub fallback_both : (a b w x : ℕ) → draw_a ≡ drawn.Index a w → draw_b ≡ drawn.Index b x
       → search_of words flags identity (run (pairs_from a b (start + a * plan.fallback_bucket_width) (start + b * plan.fallback_bucket_width) 0 plan.fallback_bucket_width)) before
-      ≡ fallbackWhole
+      ≡ fallback_whole
   unfolding fallback_of
   fallback_both a b w x d f = rw (d, f)

@@ -20,8 +20,8 @@ use Rattle.funnel.specs.declared.table.Walk.TheVariants as walk
 use Rattle.funnel.specs.Path.{Path, run, bucket_from, level_start}
 use Rattle.funnel.specs.Search.{search_of, find_of}
 use Rattle.funnel.specs.SearchLaws.{resume}
-use Rattle.funnel.specs.StageLaws.{BucketLeft, bucket_none, bucket_vacant, bucket_hit, bucket_more, bucket_end, drew, LevelsLeft, levelsOn, levels_none, levels_found, levels_end}
-use Rattle.funnel.specs.FindLaws.{levelsPart, find_levels}
+use Rattle.funnel.specs.StageLaws.{BucketLeft, bucket_none, bucket_vacant, bucket_hit, bucket_more, bucket_end, drew, LevelsLeft, levels_on, levels_none, levels_found, levels_end}
+use Rattle.funnel.specs.FindLaws.{levels_part, find_levels}
 use Rattle.funnel.specs.PlanLaws.{level_none, level_room, bucket_room}
 use Rattle.funnel.specs.Valid.{Valid, Keyed}
 use Rattle.funnel.specs.Stop.{StopsAt, BucketStops, halt_of, Inside, Halts, HaltedIn, WalksTo, FirstAhead}
@@ -122,8 +122,8 @@ module _ (table : FunnelTable) (counts words flags : List ℕ) (identity : ℕ) 
     abbrev found : Search
     found = search_of words flags identity (run (bucket_from level bucket (start + bucket * table.plan.beta) 0 table.plan.beta)) (level * table.plan.beta)
 
-    passed_found : search_of words flags identity (levelsPart table counts words flags identity) 0
-        ≡ resume words flags identity (levelsOn table.plan counts words flags table.seed table.word_cap identity (level + 1)) found
+    passed_found : search_of words flags identity (levels_part table counts words flags identity) 0
+        ≡ resume words flags identity (levels_on table.plan counts words flags table.seed table.word_cap identity (level + 1)) found
     passed_found =
         levels_found table.plan counts words flags table.seed table.word_cap identity p.left bucket 1 start found h p.starts
         (drew keyed (domain.Ordinary level) 0 (get_or counts level 0) table.word_cap _ (drawn.Index bucket 1) refl
@@ -134,8 +134,8 @@ module _ (table : FunnelTable) (counts words flags : List ℕ) (identity : ℕ) 
     pub passed_stops : (r : Stop) → BucketStops words flags identity (start + bucket * table.plan.beta) table.plan.beta r
         → StopsAt r (find_of table counts words flags identity) (Unit {0})
     passed_stops r s =
-        let whole = search_of words flags identity (levelsPart table counts words flags identity) 0 in
-        let a = stops_resume words flags identity (levelsOn table.plan counts words flags table.seed table.word_cap identity (level + 1)) r found _ (Unit {0}) (λ z. tt) (s level bucket (level * table.plan.beta)) in
+        let whole = search_of words flags identity (levels_part table counts words flags identity) 0 in
+        let a = stops_resume words flags identity (levels_on table.plan counts words flags table.seed table.word_cap identity (level + 1)) r found _ (Unit {0}) (λ z. tt) (s level bucket (level * table.plan.beta)) in
         let b : StopsAt r whole (Unit {0}) = subst (λ (x : Search). StopsAt r x (Unit {0})) (sym passed_found) a in
         subst (λ (x : Search). StopsAt r x (Unit {0})) (sym (find_levels table counts words flags identity whole refl))
         (stops_resume words flags identity _ r whole _ (Unit {0}) (λ z. tt) b)
@@ -157,8 +157,8 @@ module _ (table : FunnelTable) (counts words flags : List ℕ) (identity : ℕ) 
 
     -- what a walk over the levels says where a bucket halts it
     module _ (r : Halt) (s : Halts words flags identity (start + bucket * table.plan.beta) table.plan.beta r) (i : ℕ) where
-      walks_found : search_of words flags identity (levelsPart table counts words flags identity) 0
-          ≡ resume words flags identity (levelsOn table.plan counts words flags table.seed table.word_cap identity (level + 1))
+      walks_found : search_of words flags identity (levels_part table counts words flags identity) 0
+          ≡ resume words flags identity (levels_on table.plan counts words flags table.seed table.word_cap identity (level + 1))
           (halt_of level bucket (start + bucket * table.plan.beta) table.plan.beta (level * table.plan.beta) r)
       walks_found = passed_found ∙ ap (resume words flags identity _) (s.says level bucket (level * table.plan.beta))
 
@@ -173,19 +173,19 @@ module _ (table : FunnelTable) (counts words flags : List ℕ) (identity : ℕ) 
 
       pub walks_hit : r ≡ halt.Hit i
           → WalksTo table.plan.alpha table.plan.beta (walk.Hit level bucket (start + bucket * table.plan.beta) i)
-          (search_of words flags identity (levelsPart table counts words flags identity) 0)
+          (search_of words flags identity (levels_part table counts words flags identity) 0)
       unfolding resume halt_of WalksTo
       walks_hit e = record { inside = subst (Inside table.plan.beta) e s.inside; slots = walks_slots; probes = walks_probes; is = walks_found ∙ rw e }
 
       pub walks_vacant : r ≡ halt.Vacant i
           → WalksTo table.plan.alpha table.plan.beta (walk.Vacant level bucket (start + bucket * table.plan.beta) i)
-          (search_of words flags identity (levelsPart table counts words flags identity) 0)
+          (search_of words flags identity (levels_part table counts words flags identity) 0)
       unfolding resume halt_of WalksTo
       walks_vacant e = record { inside = subst (Inside table.plan.beta) e s.inside; slots = walks_slots; probes = walks_probes; is = walks_found ∙ rw e }
 
   -- past the levels, each of their slots has been read
   pub walks_past : {level start bucket : ℕ} → LevelsPassed level start bucket → table.plan.alpha ≤ level
-      → WalksTo table.plan.alpha table.plan.beta walk.Past (search_of words flags identity (levelsPart table counts words flags identity) 0)
+      → WalksTo table.plan.alpha table.plan.beta walk.Past (search_of words flags identity (levels_part table counts words flags identity) 0)
   unfolding WalksTo
   walks_past {level} p h =
       let e : level ≡ table.plan.alpha = omega (arith, p.within) in
@@ -194,9 +194,9 @@ module _ (table : FunnelTable) (counts words flags : List ℕ) (identity : ℕ) 
 
 -- what a walk over the levels says of the whole search
 module _ (table : FunnelTable) (counts words flags : List ℕ) (identity : ℕ) (r : Walk)
-    (w : WalksTo table.plan.alpha table.plan.beta r (search_of words flags identity (levelsPart table counts words flags identity) 0)) where
+    (w : WalksTo table.plan.alpha table.plan.beta r (search_of words flags identity (levels_part table counts words flags identity) 0)) where
   abbrev levels : Search
-  levels = search_of words flags identity (levelsPart table counts words flags identity) 0
+  levels = search_of words flags identity (levels_part table counts words flags identity) 0
 
   module _ (level bucket from i : ℕ) where
     pub walked_hit : r ≡ walk.Hit level bucket from i → HaltedIn table.plan.beta level bucket from (halt.Hit i) levels

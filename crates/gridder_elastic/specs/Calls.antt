@@ -83,9 +83,9 @@ open_call n e seed limits state words flags answer =
     open_left (open_blocks_gate n e limits (word_count (length words)) (length flags) (length state) (length answer)) n e seed limits state words flags answer
 
 -- the limits, in the order of the call's arguments
-abbrev pub limits_of : (c wordCap searchCap positionCap : ℕ) → Limits
-limits_of c wordCap searchCap positionCap =
-    record { probe_budget_c = c; range_word_cap = wordCap; uniform_search_probe_cap = searchCap; hit_query_position_cap = positionCap }
+abbrev pub limits_of : (c word_cap search_cap position_cap : ℕ) → Limits
+limits_of c word_cap search_cap position_cap =
+    record { probe_budget_c = c; range_word_cap = word_cap; uniform_search_probe_cap = search_cap; hit_query_position_cap = position_cap }
 
 -- blocks and buffers of a fresh table, all of them written
 pub record Fresh (st : State) (words flags answer : List ℕ) (number : ℕ) (state' words' flags' answer' : List ℕ) : Type 0 where

@@ -78,9 +78,9 @@ query_fields a = fields_at (query_places a) (query_report a).values
 
 -- ---- the parts of an insertion's answer
 
-abbrev pub five_fields : (case batch free freeNext budget : ℕ) → List Field
-five_fields case batch free freeNext budget =
-    field kind_at case ∷ field bucket_at batch ∷ field free_at free ∷ field free_next_at freeNext ∷ field budget_at budget ∷ []
+abbrev pub five_fields : (case batch free free_next budget : ℕ) → List Field
+five_fields case batch free free_next budget =
+    field kind_at case ∷ field bucket_at batch ∷ field free_at free ∷ field free_next_at free_next ∷ field budget_at budget ∷ []
 
 unfoldable pub case_fields : Case → List Field
 case_fields case = fields_at case_at (case_values case)

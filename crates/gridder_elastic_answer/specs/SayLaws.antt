@@ -47,18 +47,18 @@ module _ (b after : List ℕ) (c : Case) where
   unfolding case_fields fields_at
   case_first level h e = e ∙ sym (rw h)
 
-  pub case_one : (batch current next free freeNext budget : ℕ) → c ≡ Case1 batch current next free freeNext budget → after ≡ stored b (five_fields 1 batch free freeNext budget)
+  pub case_one : (batch current next free free_next budget : ℕ) → c ≡ Case1 batch current next free free_next budget → after ≡ stored b (five_fields 1 batch free free_next budget)
       → after ≡ stored b (case_fields c)
   unfolding case_fields fields_at
-  case_one batch current next free freeNext budget h e = e ∙ sym (rw h)
+  case_one batch current next free free_next budget h e = e ∙ sym (rw h)
 
-  pub case_two : (batch current next free freeNext : ℕ) → c ≡ Case2 batch current next free freeNext → after ≡ stored b (five_fields 2 batch free freeNext 0) → after ≡ stored b (case_fields c)
+  pub case_two : (batch current next free free_next : ℕ) → c ≡ Case2 batch current next free free_next → after ≡ stored b (five_fields 2 batch free free_next 0) → after ≡ stored b (case_fields c)
   unfolding case_fields fields_at
-  case_two batch current next free freeNext h e = e ∙ sym (rw h)
+  case_two batch current next free free_next h e = e ∙ sym (rw h)
 
-  pub case_three : (batch current next free freeNext : ℕ) → c ≡ Case3 batch current next free freeNext → after ≡ stored b (five_fields 3 batch free freeNext 0) → after ≡ stored b (case_fields c)
+  pub case_three : (batch current next free free_next : ℕ) → c ≡ Case3 batch current next free free_next → after ≡ stored b (five_fields 3 batch free free_next 0) → after ≡ stored b (case_fields c)
   unfolding case_fields fields_at
-  case_three batch current next free freeNext h e = e ∙ sym (rw h)
+  case_three batch current next free free_next h e = e ∙ sym (rw h)
 
 pub inserted_stored : (b cased after : List ℕ) (i : Insertion) → cased ≡ stored b (case_fields i.case)
     → after
@@ -75,9 +75,9 @@ inserted_fields_lem i = go i.case refl
   where
     go : (c : Case) → i.case ≡ c → inserted_fields i ≡ insert_fields (inserting.Inserted i)
     go (Batch0 level) h = rw h
-    go (Case1 batch current next free freeNext budget) h = rw h
-    go (Case2 batch current next free freeNext) h = rw h
-    go (Case3 batch current next free freeNext) h = rw h
+    go (Case1 batch current next free free_next budget) h = rw h
+    go (Case2 batch current next free free_next) h = rw h
+    go (Case3 batch current next free free_next) h = rw h
 
 module _ (said : InsertAnswer) (n : ℕ) (zeros a : List ℕ) (length_is : n ≡ answer_length) (cleared : zeros ≡ replicate n 0) where
   pub insert_says : (i : Insertion) → said ≡ inserting.Inserted i → a ≡ stored zeros (inserted_fields i) → reply 0 a ≡ reply (insert_report said).number (says (insert_fields said))

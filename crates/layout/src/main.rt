@@ -26,14 +26,14 @@ use text::out::{flush, put, put_byte, put_field, put_pairs};
 const LONGEST: usize = 64;
 
 // How far the program is: the bytes of the line so far, and the place in the output.
-#[derive(Drop)]
+#[derive(Clone, Copy)]
 struct Progress {
     length: usize,
     at: usize,
 }
 
 // What a line asks.
-#[derive(Drop)]
+#[derive(Clone, Copy)]
 enum Query {
     Elastic { n: u64, e: u32 },
     Funnel { n: u64, e: u32 },

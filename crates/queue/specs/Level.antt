@@ -10,21 +10,21 @@ groups k = (k + 63) / 64
 abbrev pub IsClear : List ℕ → ℕ → Type 0
 IsClear b t = get_or b t 0 ≡ 0
 
--- every flag of group j is IsClear
+-- every flag of group j is clear
 abbrev pub IsClearGroup : List ℕ → (low k j : ℕ) → Type 0
 IsClearGroup b low k j = (i : ℕ) → i < k → i / 64 ≡ j → IsClear b (low + i)
 
--- the upper level is exact: no flag is set under a IsClear one, and a group's flag is IsClear where its flags are
+-- the upper level is exact: no flag is set under a clear one, and a group's flag is clear where its flags are
 pub record Over (b : List ℕ) (low up k : ℕ) : Type 0 where
   pub above : (i : ℕ) → i < k → IsClear b (up + i / 64) → IsClear b (low + i)
   pub below : (j : ℕ) → j < groups k → IsClearGroup b low k j → IsClear b (up + j)
 
--- the same, but the flag of x's group may be set over a group that is IsClear
+-- the same, but the flag of x's group may be set over a group that is clear
 pub record Nearly (b : List ℕ) (low up k x : ℕ) : Type 0 where
   pub above : (i : ℕ) → i < k → IsClear b (up + i / 64) → IsClear b (low + i)
   pub below : (j : ℕ) → j < groups k → (j ≡ x / 64 → ⊥) → IsClearGroup b low k j → IsClear b (up + j)
 
--- at most the byte at p was changed, and not from IsClear to set
+-- at most the byte at p was changed, and not from clear to set
 pub record Lowered (before after : List ℕ) (p : ℕ) : Type 0 where
   pub same_n : length after ≡ length before
   pub others : (t : ℕ) → (t ≡ p → ⊥) → get_or after t 0 ≡ get_or before t 0

@@ -99,7 +99,7 @@ module _ {b : List ℕ} {low up k : ℕ} (over : Over b low up k) (j : ℕ) {r :
       let g = f.group h in
       either (t / 64) j (λ e. f.before t l e) (λ n. over.above t (omega arith) (c (t / 64) (omega arith)))
 
--- under flags that are all IsClear there is none
+-- under flags that are all clear there is none
 pub under_none : {b : List ℕ} {low up k : ℕ} → Over b low up k → ((q : ℕ) → q < groups k → IsClear b (up + q)) → (t : ℕ) → t < k → IsClear b (low + t)
 under_none over c t h = over.above t h (c (t / 64) (omega arith))
 

@@ -31,14 +31,14 @@ const LONGEST: usize = 128;
 const FIRST: u64 = 2;
 
 // How far the program is: the bytes of the line so far, and the place in the output.
-#[derive(Drop)]
+#[derive(Clone, Copy)]
 struct Progress {
     length: usize,
     at: usize,
 }
 
 // What a line asks.
-#[derive(Drop)]
+#[derive(Clone, Copy)]
 enum Query {
     Of {
         count: u64,

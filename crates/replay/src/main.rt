@@ -22,7 +22,7 @@ use text::out::{flush, put, put_byte};
 const LONGEST: usize = 524288;
 
 // How far the program is: the bytes of the line so far, and the place in the output.
-#[derive(Drop)]
+#[derive(Clone, Copy)]
 struct Progress {
     length: usize,
     at: usize,

@@ -13,7 +13,7 @@ pub struct Operation {
 const NONE: u8 = 0;
 
 // Two numbers with a byte between them, or none.
-#[derive(Drop)]
+#[derive(Clone, Copy)]
 pub enum Split {
     Into { left: u64, right: u64 },
     Unknown,

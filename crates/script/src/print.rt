@@ -29,7 +29,7 @@ pub const OK: u8 = 2;
 const NOWHERE: u64 = 11;
 
 // A place of a funnel table as a letter and numbers, of which it has `count`.
-#[derive(Drop)]
+#[derive(Clone, Copy)]
 struct Spelt {
     letter: u8,
     count: u64,

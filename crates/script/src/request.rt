@@ -19,7 +19,7 @@ pub struct Opening {
 }
 
 // The first four fields, and where the next starts; not good where they are no opening.
-#[derive(Drop)]
+#[derive(Clone, Copy)]
 pub struct Head {
     pub opening: Opening,
     pub next: usize,

@@ -13,7 +13,7 @@ pub struct Standing {
 }
 
 // An operation carried out: the table's count after it, its answer, and what it adds to the sums.
-#[derive(Drop)]
+#[derive(Clone, Copy)]
 pub struct Applied {
     pub count: u64,
     pub said: Said,

@@ -2,7 +2,7 @@
 
 // The commands by what they are on: a layout, an elastic table, a funnel table, with a letter of its own each, or numbers
 // alone; what is none is among the last. A run may be in bulk.
-#[derive(Drop)]
+#[derive(Clone, Copy)]
 pub enum Word {
     Layout { elastic: bool },
     Elastic { bulk: bool },

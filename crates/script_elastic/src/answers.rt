@@ -146,7 +146,7 @@ fn of_finding(found: Finding) -> Said {
 }
 
 // A case, its batch, free slots and budget; numbers that a case does not have are 0.
-#[derive(Drop)]
+#[derive(Clone, Copy)]
 struct CaseNumbers {
     case: u64,
     batch: u64,

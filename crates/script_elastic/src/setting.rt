@@ -15,7 +15,7 @@ pub struct Setting {
 }
 
 // The first seven fields, and where the next starts; not good where they are no setting.
-#[derive(Drop)]
+#[derive(Clone, Copy)]
 struct Start {
     setting: Setting,
     next: usize,
@@ -23,7 +23,7 @@ struct Start {
 }
 
 // A command, and what it is answered where no table is opened; else that says nothing.
-#[derive(Drop)]
+#[derive(Clone, Copy)]
 pub struct Asked {
     pub setting: Setting,
     pub request: Request,

@@ -19,7 +19,7 @@ const ER: u64 = 0x1_4552;
 const FR: u64 = 0x1_4652;
 
 // A domain by its tag and level, of which a special one has none.
-#[derive(Drop)]
+#[derive(Clone, Copy)]
 enum Named {
     Is(Domain),
     Unknown,

@@ -7,7 +7,7 @@ use text::field::{numbers, were_exactly};
 use text::out::{put_decimal, put_field, put_pairs, put_row};
 
 // n and e, or what is none.
-#[derive(Drop)]
+#[derive(Clone, Copy)]
 enum Sizes {
     Of { n: u64, e: u32 },
     Unknown,

@@ -2,7 +2,7 @@
 use script::operation::{Split, find_byte, split_pair};
 use text::field::{OneWord, field_after, field_end, number};
 
-#[derive(Drop)]
+#[derive(Clone, Copy)]
 pub enum Entry {
     Holds { slot: u64, word: u64, flag: u8 },
     Unknown,

@@ -26,7 +26,7 @@ pub struct Task {
 }
 
 // A command, and what it is answered where no table is opened; else that says nothing.
-#[derive(Drop)]
+#[derive(Clone, Copy)]
 pub struct Asked {
     pub opening: Opening,
     pub task: Task,
@@ -110,7 +110,7 @@ fn check_of(line: &[u8], from: usize, n: u64) -> Task {
 }
 
 // A number and entries behind it.
-#[derive(Drop)]
+#[derive(Clone, Copy)]
 struct Rest {
     number: u64,
     entries: usize,

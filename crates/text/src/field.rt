@@ -4,14 +4,14 @@ ghost use Rattle.std.specs.Prelude.{◌≡◌, ◌+◌, ◌-◌, ◌^◌, ◌<�
 use words::product::{Wide, multiply_wide};
 
 // A number of one word, or none.
-#[derive(Drop)]
+#[derive(Clone, Copy)]
 pub enum OneWord {
     Value(u64),
     Bad,
 }
 
 // A number of two words, or none.
-#[derive(Drop)]
+#[derive(Clone, Copy)]
 pub enum TwoWords {
     Value(Wide),
     Bad,

@@ -3,7 +3,7 @@ ghost use Rattle.std.specs.Prelude.{◌≡◌, length, take};
 ghost use Rattle.text.specs.Line.{hold, Takes};
 
 // What was taken of a part: the length of the line so far, where the rest of the part starts, whether the line ended.
-#[derive(Drop)]
+#[derive(Clone, Copy)]
 pub struct Gathered {
     pub length: usize,
     pub next: usize,

@@ -10,7 +10,7 @@ const P: u64 = 0x1_0000_0000;
 const STDOUT: i32 = 1;
 
 // A two-word number without its last decimal digit, and that digit.
-#[derive(Drop)]
+#[derive(Clone, Copy)]
 struct Tenth {
     rest: Wide,
     digit: u64,

@@ -1,4 +1,4 @@
--- `waiting::chain::IsClear` meets its contract. Assumes nothing.
+-- `waiting::chain::clear` meets its contract. Assumes nothing.
 use Rattle.waiting.specs.LinksLaws.{cleared_made}
 use Rattle.waiting.proofs.chain.clear.Goals as goal
 

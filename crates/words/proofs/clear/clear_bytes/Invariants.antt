@@ -1,4 +1,4 @@
--- `words::IsClear::clear_bytes` meets its contract. The invariant: zeros in front, and behind them the old entries. Assumes nothing.
+-- `words::clear::clear_bytes` meets its contract. The invariant: zeros in front, and behind them the old entries. Assumes nothing.
 use Prim.Native.Nat.{◌-◌, ◌≤◌}
 use mathlib.Core.Path.{◌≡◌}
 use mathlib.Core.List.{◌++◌}
