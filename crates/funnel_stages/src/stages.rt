@@ -5,28 +5,26 @@ ghost use Rattle.probe.specs.Range.{domain_draw_of};
 ghost use Rattle.funnel.specs.Path.{levels_from, primary_from, fallback_of};
 ghost use Rattle.funnel.specs.Search.{search_of};
 ghost use Rattle.funnel.specs.Valid.{Valid, Keyed, SpecialRoom};
-ghost use Rattle.lent.specs.Lent.{words_in};
 
 use funnel::scan::{read, scan, scan_pairs};
 use funnel::table::{FunnelTable, Search};
+use lent::store::Stored;
 use probe::counter::Domain;
 use probe::range::{Drawn, funnel_draw};
 use probe::word::FunnelKey;
 use words::place::{GlobalSlot, LogicalProbe, Place};
 
 // "per level one bucket, slots in order"
-pub fn search_levels(
+pub fn search_levels<E: Stored>(
     table: FunnelTable,
     counts: &[u64; 118],
-    words: &[u64],
+    words: &[E],
     flags: &[u8],
     identity: u64,
     key: FunnelKey,
-    lent: &[u8],
-    bytes: bool,
 ) -> Search
-    requires { Valid table counts.now (words_in bytes words.now lent.now) flags.now × Keyed table.seed identity key }
-    ensures { result ≡ search_of (words_in bytes words.now lent.now) flags.now identity (levels_from table.plan counts.now table.seed table.word_cap identity 0 table.plan.alpha) 0 }
+    requires { Valid table counts.now (E.words words.now) flags.now × Keyed table.seed identity key }
+    ensures { result ≡ search_of (E.words words.now) flags.now identity (levels_from table.plan counts.now table.seed table.word_cap identity 0 table.plan.alpha) 0 }
 {
     let alpha = table.plan.alpha;
     let beta = table.plan.beta;
@@ -43,7 +41,7 @@ pub fn search_levels(
             Drawn::Index { index, words: _ } => {
                 let from = start + index * beta;
                 let found = scan(
-                    words, flags, identity, level, index, from, beta, probes, lent, bytes,
+                    words, flags, identity, level, index, from, beta, probes,
                 );
                 let Search::Full { probes: read } = found else {
                     return found;
@@ -58,19 +56,17 @@ pub fn search_levels(
 }
 
 // "then g primary probes", among the primary slots from `start` on, with some probes made before
-pub fn search_primary(
+pub fn search_primary<E: Stored>(
     table: FunnelTable,
     start: u64,
-    words: &[u64],
+    words: &[E],
     flags: &[u8],
     identity: u64,
     key: FunnelKey,
     probes: u64,
-    lent: &[u8],
-    bytes: bool,
 ) -> Search
-    requires { SpecialRoom table start table.plan.special_primary_len (length (words_in bytes words.now lent.now)) (length flags.now) probes × Keyed table.seed identity key }
-    ensures { result ≡ search_of (words_in bytes words.now lent.now) flags.now identity (primary_from table.plan start table.seed table.word_cap identity 0 table.plan.loglog_ceiling) probes }
+    requires { SpecialRoom table start table.plan.special_primary_len (length (E.words words.now)) (length flags.now) probes × Keyed table.seed identity key }
+    ensures { result ≡ search_of (E.words words.now) flags.now identity (primary_from table.plan start table.seed table.word_cap identity 0 table.plan.loglog_ceiling) probes }
 {
     let primary_len = table.plan.special_primary_len;
     let loglog_ceiling = table.plan.loglog_ceiling;
@@ -88,7 +84,7 @@ pub fn search_primary(
                     slot: index,
                     global_slot: GlobalSlot(at),
                 };
-                let found = read(words, flags, identity, place, at, made, lent, bytes);
+                let found = read(words, flags, identity, place, at, made);
                 let Search::Full { probes: now_made } = found else {
                     return found;
                 };
@@ -101,19 +97,17 @@ pub fn search_primary(
 }
 
 // "then buckets A and B both sampled, slot by slot, A before B", among the fallback buckets from `start` on
-pub fn search_fallback(
+pub fn search_fallback<E: Stored>(
     table: FunnelTable,
     start: u64,
-    words: &[u64],
+    words: &[E],
     flags: &[u8],
     identity: u64,
     key: FunnelKey,
     probes: u64,
-    lent: &[u8],
-    bytes: bool,
 ) -> Search
-    requires { SpecialRoom table start (table.plan.fallback_bucket_count * table.plan.fallback_bucket_width) (length (words_in bytes words.now lent.now)) (length flags.now) probes × Keyed table.seed identity key }
-    ensures { result ≡ search_of (words_in bytes words.now lent.now) flags.now identity (fallback_of table.plan start table.seed table.word_cap identity) probes }
+    requires { SpecialRoom table start (table.plan.fallback_bucket_count * table.plan.fallback_bucket_width) (length (E.words words.now)) (length flags.now) probes × Keyed table.seed identity key }
+    ensures { result ≡ search_of (E.words words.now) flags.now identity (fallback_of table.plan start table.seed table.word_cap identity) probes }
 {
     let buckets = table.plan.fallback_bucket_count;
     let width = table.plan.fallback_bucket_width;
@@ -127,7 +121,7 @@ pub fn search_fallback(
                     let at_a = start + a * width;
                     let at_b = start + b * width;
                     scan_pairs(
-                        words, flags, identity, a, b, at_a, at_b, width, probes, lent, bytes,
+                        words, flags, identity, a, b, at_a, at_b, width, probes,
                     )
                 }
             }

@@ -6,7 +6,7 @@ use Rattle.funnel.specs.StageLaws.{drew, drew_below, fallback_refused_a, fallbac
 use Rattle.funnel_stages.proofs.stages.search_fallback.Goals as goal
 
 pub overflow_mul-at_a : goal.overflow_mul-at_a
-overflow_mul-at_a c = let p = c.requires.0 in
+overflow_mul-at_a g c = let p = c.requires.0 in
     let a = drew_below _ _ _ _ _ _ p.fallback c.sample.ensures c.in-Index.is in
     let b = drew_below _ _ _ _ _ _ p.fallback c.sample-in-Index.ensures c.in-Index-sample.is in
     let u = part_room _ _ c.args.table.plan.fallback_bucket_width a in
@@ -14,7 +14,7 @@ overflow_mul-at_a c = let p = c.requires.0 in
     omega arith
 
 pub overflow_add-at_a : goal.overflow_add-at_a
-overflow_add-at_a c = let p = c.requires.0 in
+overflow_add-at_a g c = let p = c.requires.0 in
     let a = drew_below _ _ _ _ _ _ p.fallback c.sample.ensures c.in-Index.is in
     let b = drew_below _ _ _ _ _ _ p.fallback c.sample-in-Index.ensures c.in-Index-sample.is in
     let u = part_room _ _ c.args.table.plan.fallback_bucket_width a in
@@ -22,7 +22,7 @@ overflow_add-at_a c = let p = c.requires.0 in
     omega arith
 
 pub overflow_mul-at_b : goal.overflow_mul-at_b
-overflow_mul-at_b c = let p = c.requires.0 in
+overflow_mul-at_b g c = let p = c.requires.0 in
     let a = drew_below _ _ _ _ _ _ p.fallback c.sample.ensures c.in-Index.is in
     let b = drew_below _ _ _ _ _ _ p.fallback c.sample-in-Index.ensures c.in-Index-sample.is in
     let u = part_room _ _ c.args.table.plan.fallback_bucket_width a in
@@ -30,7 +30,7 @@ overflow_mul-at_b c = let p = c.requires.0 in
     omega arith
 
 pub overflow_add-at_b : goal.overflow_add-at_b
-overflow_add-at_b c = let p = c.requires.0 in
+overflow_add-at_b g c = let p = c.requires.0 in
     let a = drew_below _ _ _ _ _ _ p.fallback c.sample.ensures c.in-Index.is in
     let b = drew_below _ _ _ _ _ _ p.fallback c.sample-in-Index.ensures c.in-Index-sample.is in
     let u = part_room _ _ c.args.table.plan.fallback_bucket_width a in
@@ -38,7 +38,7 @@ overflow_add-at_b c = let p = c.requires.0 in
     omega arith
 
 pub scan_pairs-requires : goal.scan_pairs-requires
-scan_pairs-requires c = let p = c.requires.0 in
+scan_pairs-requires g c = let p = c.requires.0 in
     let a = drew_below _ _ _ _ _ _ p.fallback c.sample.ensures c.in-Index.is in
     let b = drew_below _ _ _ _ _ _ p.fallback c.sample-in-Index.ensures c.in-Index-sample.is in
     let u = part_room _ _ c.args.table.plan.fallback_bucket_width a in
@@ -46,10 +46,10 @@ scan_pairs-requires c = let p = c.requires.0 in
     omega arith
 
 pub returns-in-Refused : goal.returns-in-Refused
-returns-in-Refused c = fallback_refused_a _ _ _ _ _ _ _ _ _ (drew c.requires.1 _ _ _ _ _ _ c.sample.ensures c.in-Refused.is)
+returns-in-Refused g c = fallback_refused_a _ _ _ _ _ _ _ _ _ (drew c.requires.1 _ _ _ _ _ _ c.sample.ensures c.in-Refused.is)
 
 pub returns-in-Refused-sample : goal.returns-in-Refused-sample
-returns-in-Refused-sample c = fallback_refused_b _ _ _ _ _ _ _ _ _ _ _ (drew c.requires.1 _ _ _ _ _ _ c.sample.ensures c.in-Index.is) (drew c.requires.1 _ _ _ _ _ _ c.sample-in-Index.ensures c.in-Refused-sample.is)
+returns-in-Refused-sample g c = fallback_refused_b _ _ _ _ _ _ _ _ _ _ _ (drew c.requires.1 _ _ _ _ _ _ c.sample.ensures c.in-Index.is) (drew c.requires.1 _ _ _ _ _ _ c.sample-in-Index.ensures c.in-Refused-sample.is)
 
 pub returns-in-Index-sample : goal.returns-in-Index-sample
-returns-in-Index-sample c = c.scan_pairs.ensures ∙ fallback_both _ _ _ _ _ _ _ _ _ _ _ _ (drew c.requires.1 _ _ _ _ _ _ c.sample.ensures c.in-Index.is) (drew c.requires.1 _ _ _ _ _ _ c.sample-in-Index.ensures c.in-Index-sample.is)
+returns-in-Index-sample g c = c.scan_pairs.ensures ∙ fallback_both _ _ _ _ _ _ _ _ _ _ _ _ (drew c.requires.1 _ _ _ _ _ _ c.sample.ensures c.in-Index.is) (drew c.requires.1 _ _ _ _ _ _ c.sample-in-Index.ensures c.in-Index-sample.is)
