@@ -24,7 +24,7 @@ use Rattle.funnel.specs.StageLaws.{BucketLeft, bucket_none, bucket_vacant, bucke
 use Rattle.funnel.specs.FindLaws.{levels_part, find_levels}
 use Rattle.funnel.specs.PlanLaws.{level_none, level_room, bucket_room}
 use Rattle.funnel.specs.Valid.{Valid, Keyed}
-use Rattle.funnel.specs.Stop.{StopsAt, BucketStops, halt_of, Inside, Halts, HaltedIn, WalksTo, FirstAhead}
+use Rattle.funnel.specs.Stop.{HitAt, VacantAt, StopsAt, BucketStops, halt_of, Inside, Halts, HaltedIn, WalksTo, FirstAhead}
 
 -- a search that stopped has stopped for good
 pub stops_resume : (words flags : List ℕ) (identity : ℕ) (q : Path) (r : Stop) (found : Search) (P Q : Type 0) → (r ≡ stop.Nowhere → Q)
@@ -33,6 +33,16 @@ unfolding StopsAt resume
 stops_resume words flags identity q (stop.Hit slot) found P Q n h = record { probes = h.probes; place = h.place; is = rw h.is; there = h.there }
 stops_resume words flags identity q (stop.Vacant slot) found P Q n h = record { probes = h.probes; place = h.place; is = rw h.is; there = h.there }
 stops_resume words flags identity q stop.Nowhere found P Q n h = n refl
+
+-- what a stop at a slot says of the search
+module _ (r : Stop) (found : Search) (P : Type 0) (h : StopsAt r found P) (slot : ℕ) where
+  pub stopped_hit : r ≡ stop.Hit slot → HitAt slot found
+  unfolding StopsAt
+  stopped_hit e = subst (λ (x : Stop). StopsAt x found P) e h
+
+  pub stopped_vacant : r ≡ stop.Vacant slot → VacantAt slot found
+  unfolding StopsAt
+  stopped_vacant e = subst (λ (x : Stop). StopsAt x found P) e h
 
 -- ---- a bucket, of which no slot before the i-th stops the search
 
