@@ -55,7 +55,7 @@ pub fn halted(halt: Halt, level: u64, bucket: u64, from: u64, w: u64, probes: u6
 }
 
 // Where a bucket of w slots stops a search, for an even w: two slots a turn, no place and no count of probes. The loop holds an index and
-// no slot, so that it needs few registers.
+// no slot, so that it needs few registers. A range or a chain over chunks holds more, and is slower, so it counts the index itself.
 pub fn halt<E: Stored>(
     words: &[E],
     flags: &[u8],
@@ -148,9 +148,8 @@ pub fn scan_pairs<E: Stored>(
     requires { (at_a + w ≤ length (E.words words.now)) × (at_b + w ≤ length (E.words words.now)) × (length (E.words words.now) ≡ length flags.now) × (probes + 2 * w < 2 ^ 64) }
     ensures { result ≡ search_of (E.words words.now) flags.now identity (run (pairs_from a b at_a at_b 0 w)) probes }
 {
-    let mut i = 0;
     let mut made = probes;
-    while i < w {
+    for i in 0..w {
         let first = at_a + i;
         let place_a = Place::SpecialFallback {
             bucket: a,
@@ -172,7 +171,6 @@ pub fn scan_pairs<E: Stored>(
             return found_b;
         };
         made = both;
-        i += 1;
     }
     Search::Full { probes: made }
 }

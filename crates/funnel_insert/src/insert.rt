@@ -3,7 +3,7 @@ ghost use Rattle.std.specs.Prelude.{◌≡◌, ◌≤◌};
 ghost use Rattle.funnel.specs.Insert.{done, with_count, stepped, insert_of};
 ghost use Rattle.funnel.specs.Valid.{Valid};
 
-use funnel::table::{FunnelTable, Insertion, Search, Step, slot_of};
+use funnel::table::{FunnelTable, InsertRefusal, Reached, Search, Step, slot_of};
 use funnel_search::search::find;
 use lent::store::Stored;
 
@@ -20,11 +20,7 @@ pub fn insert<E: Stored>(
 {
     let count = table.count;
     let answer = put(table, count, counts, words, flags, identity);
-    let Insertion::Inserted {
-        probes: _,
-        place: _,
-    } = answer
-    else {
+    let Ok(_) = answer else {
         return Step { answer, table };
     };
     let mut next = table;
@@ -43,29 +39,29 @@ pub fn put<E: Stored>(
     words: &mut [E],
     flags: &mut [u8],
     identity: u64,
-) -> Insertion
+) -> Result<Reached, InsertRefusal>
     requires { Valid table counts.now (E.words words.old) flags.old × (count ≤ table.n) }
     ensures { done result (stepped result (with_count table count)) (E.words words.new) flags.new ≡ insert_of (with_count table count) counts.now (E.words words.old) flags.old identity }
 {
     let maximum = table.plan.maximum;
     match find(table, counts, words, flags, identity) {
-        Search::Hit { probes, place } => Insertion::Duplicate { probes, place },
-        Search::Range(refusal) => Insertion::Range(refusal),
+        Search::Hit { probes, place } => Err(InsertRefusal::Duplicate { probes, place }),
+        Search::Range(refusal) => Err(InsertRefusal::Range(refusal)),
         Search::Full { probes } => {
             if maximum <= count {
-                return Insertion::Exhausted { probes };
+                return Err(InsertRefusal::Exhausted { probes });
             }
-            Insertion::Full { probes }
+            Err(InsertRefusal::Full { probes })
         }
         Search::Vacant { probes, place } => {
             if maximum <= count {
-                return Insertion::Exhausted { probes };
+                return Err(InsertRefusal::Exhausted { probes });
             }
             let slot = slot_of(place);
             E::put(words, slot, identity);
             let at = slot as usize;
             flags[at] = 1;
-            Insertion::Inserted { probes, place }
+            Ok(Reached { probes, place })
         }
     }
 }

@@ -4,7 +4,7 @@ ghost use Rattle.funnel.specs.Insert.{with_count, settled_of, Settles, placed, p
 ghost use Rattle.funnel.specs.Valid.{Valid};
 
 use funnel::table::{
-    FunnelTable, Insertion, PlacedAll, Placement, Settled, Stop, slot_of, with_count,
+    FunnelTable, InsertRefusal, PlaceRefusal, PlacedAll, Reached, Settled, Stop, slot_of, with_count,
 };
 use funnel_insert::insert::put;
 use funnel_search::search::pass_levels;
@@ -24,29 +24,24 @@ pub fn place_all<E: Stored>(
 {
     let mut count = table.count;
     let total = E::count(identities);
-    let mut i = 0;
-    while i < total {
+    for i in 0..total {
         let identity = E::word(identities, i);
         match settle(table, count, counts, words, flags, identity, i) {
-            Settled::Put { slot } => {
+            Ok(Settled::Put { slot }) => {
                 E::put(slots, i, slot);
                 count += 1;
-                i += 1;
             }
-            Settled::There { slot } => {
-                E::put(slots, i, slot);
-                i += 1;
-            }
-            Settled::Refused(answer) => {
+            Ok(Settled::There { slot }) => E::put(slots, i, slot),
+            Err(refusal) => {
                 return PlacedAll {
-                    answer,
+                    answer: Err(refusal),
                     table: with_count(table, count),
                 };
             }
         }
     }
     PlacedAll {
-        answer: Placement::All,
+        answer: Ok(()),
         table: with_count(table, count),
     }
 }
@@ -61,13 +56,13 @@ fn settle<E: Stored>(
     flags: &mut [u8],
     identity: u64,
     index: u64,
-) -> Settled
+) -> Result<Settled, PlaceRefusal>
     requires { Valid table counts.now (E.words words.old) flags.old × (count ≤ table.n) }
     ensures { Settles (with_count table count) counts.now (E.words words.old) flags.old identity index result (E.words words.new) flags.new }
 {
     let maximum = table.plan.maximum;
     match pass_levels(table, counts, words, flags, identity) {
-        Stop::Hit { slot } => Settled::There { slot },
+        Stop::Hit { slot } => Ok(Settled::There { slot }),
         Stop::Vacant { slot } => {
             if maximum <= count {
                 return settled(
@@ -78,7 +73,7 @@ fn settle<E: Stored>(
             E::put(words, slot, identity);
             let at = slot as usize;
             flags[at] = 1;
-            Settled::Put { slot }
+            Ok(Settled::Put { slot })
         }
         Stop::Nowhere => settled(
             put(table, count, counts, words, flags, identity),
@@ -88,18 +83,18 @@ fn settle<E: Stored>(
 }
 
 // An insertion's answer as a placement tells it.
-pub fn settled(answer: Insertion, index: u64) -> Settled
+pub fn settled(answer: Result<Reached, InsertRefusal>, index: u64) -> Result<Settled, PlaceRefusal>
     ensures { result ≡ settled_of answer index }
 {
     match answer {
-        Insertion::Inserted { probes: _, place } => Settled::Put {
+        Ok(put) => Ok(Settled::Put {
+            slot: slot_of(put.place),
+        }),
+        Err(InsertRefusal::Duplicate { probes: _, place }) => Ok(Settled::There {
             slot: slot_of(place),
-        },
-        Insertion::Duplicate { probes: _, place } => Settled::There {
-            slot: slot_of(place),
-        },
-        Insertion::Range(refusal) => Settled::Refused(Placement::Range { index, refusal }),
-        Insertion::Exhausted { probes } => Settled::Refused(Placement::Exhausted { index, probes }),
-        Insertion::Full { probes } => Settled::Refused(Placement::Full { index, probes }),
+        }),
+        Err(InsertRefusal::Range(refusal)) => Err(PlaceRefusal::Range { index, refusal }),
+        Err(InsertRefusal::Exhausted { probes }) => Err(PlaceRefusal::Exhausted { index, probes }),
+        Err(InsertRefusal::Full { probes }) => Err(PlaceRefusal::Full { index, probes }),
     }
 }

@@ -10,8 +10,9 @@ use funnel::scan::{read, scan, scan_pairs};
 use funnel::table::{FunnelTable, Search};
 use lent::store::Stored;
 use probe::counter::Domain;
-use probe::range::{Drawn, funnel_draw};
+use probe::range::{Index, funnel_draw};
 use probe::word::FunnelKey;
+use refusal::RangeRefusal;
 use words::place::{GlobalSlot, LogicalProbe, Place};
 
 // "per level one bucket, slots in order"
@@ -28,21 +29,16 @@ pub fn search_levels<E: Stored>(
 {
     let alpha = table.plan.alpha;
     let beta = table.plan.beta;
-    let mut level = 0;
     let mut start = 0;
     let mut probes = 0;
-    while level < alpha {
+    for level in 0..alpha {
         let count = counts[level as usize];
         let cap = table.word_cap;
         match sample(key, Domain::Ordinary { level }, LogicalProbe(0), count, cap) {
-            Drawn::Refused(refusal) => {
-                return Search::Range(refusal);
-            }
-            Drawn::Index { index, words: _ } => {
-                let from = start + index * beta;
-                let found = scan(
-                    words, flags, identity, level, index, from, beta, probes,
-                );
+            Err(refusal) => return Search::Range(refusal),
+            Ok(bucket) => {
+                let from = start + bucket.index * beta;
+                let found = scan(words, flags, identity, level, bucket.index, from, beta, probes);
                 let Search::Full { probes: read } = found else {
                     return found;
                 };
@@ -50,7 +46,6 @@ pub fn search_levels<E: Stored>(
             }
         }
         start += count * beta;
-        level += 1;
     }
     Search::Full { probes }
 }
@@ -70,18 +65,15 @@ pub fn search_primary<E: Stored>(
 {
     let primary_len = table.plan.special_primary_len;
     let loglog_ceiling = table.plan.loglog_ceiling;
-    let mut probe = 0;
     let mut made = probes;
-    while probe < loglog_ceiling {
+    for probe in 0..loglog_ceiling {
         let cap = table.word_cap;
         match sample(key, Domain::Primary, LogicalProbe(probe), primary_len, cap) {
-            Drawn::Refused(refusal) => {
-                return Search::Range(refusal);
-            }
-            Drawn::Index { index, words: _ } => {
-                let at = start + index;
+            Err(refusal) => return Search::Range(refusal),
+            Ok(drew) => {
+                let at = start + drew.index;
                 let place = Place::SpecialPrimary {
-                    slot: index,
+                    slot: drew.index,
                     global_slot: GlobalSlot(at),
                 };
                 let found = read(words, flags, identity, place, at, made);
@@ -91,7 +83,6 @@ pub fn search_primary<E: Stored>(
                 made = now_made;
             }
         }
-        probe += 1;
     }
     Search::Full { probes: made }
 }
@@ -112,25 +103,27 @@ pub fn search_fallback<E: Stored>(
     let buckets = table.plan.fallback_bucket_count;
     let width = table.plan.fallback_bucket_width;
     let cap = table.word_cap;
-    match sample(key, Domain::FallbackA, LogicalProbe(0), buckets, cap) {
-        Drawn::Refused(refusal) => Search::Range(refusal),
-        Drawn::Index { index: a, words: _ } => {
-            match sample(key, Domain::FallbackB, LogicalProbe(0), buckets, cap) {
-                Drawn::Refused(refusal) => Search::Range(refusal),
-                Drawn::Index { index: b, words: _ } => {
-                    let at_a = start + a * width;
-                    let at_b = start + b * width;
-                    scan_pairs(
-                        words, flags, identity, a, b, at_a, at_b, width, probes,
-                    )
-                }
-            }
-        }
-    }
+    let a = match sample(key, Domain::FallbackA, LogicalProbe(0), buckets, cap) {
+        Err(refusal_a) => return Search::Range(refusal_a),
+        Ok(a) => a.index,
+    };
+    let b = match sample(key, Domain::FallbackB, LogicalProbe(0), buckets, cap) {
+        Err(refusal_b) => return Search::Range(refusal_b),
+        Ok(b) => b.index,
+    };
+    let at_a = start + a * width;
+    let at_b = start + b * width;
+    scan_pairs(words, flags, identity, a, b, at_a, at_b, width, probes)
 }
 
 // An index below upper, by the key of an identity: the Rust's `sample`.
-pub fn sample(key: FunnelKey, domain: Domain, probe: LogicalProbe, upper: u64, cap: u64) -> Drawn
+pub fn sample(
+    key: FunnelKey,
+    domain: Domain,
+    probe: LogicalProbe,
+    upper: u64,
+    cap: u64,
+) -> Result<Index, RangeRefusal>
     requires { (level_of domain < 2 ^ 46) × (probe.0 < 256) × (0 < upper) × (cap ≤ 256) }
     ensures { result ≡ domain_draw_of key.inner key.outer domain probe.0 upper cap }
 {
