@@ -26,19 +26,23 @@ pub fn place_all<E: Stored>(
     let total = E::count(identities);
     for i in 0..total {
         let identity = E::word(identities, i);
-        match settle(table, count, counts, words, flags, identity, i) {
-            Ok(Settled::Put { slot }) => {
-                E::put(slots, i, slot);
-                count += 1;
-            }
-            Ok(Settled::There { slot }) => E::put(slots, i, slot),
+        let settled = match settle(table, count, counts, words, flags, identity, i) {
+            Ok(settled) => settled,
             Err(refusal) => {
                 return PlacedAll {
                     answer: Err(refusal),
                     table: with_count(table, count),
                 };
             }
-        }
+        };
+        let slot = match settled {
+            Settled::Put { slot } => {
+                count += 1;
+                slot
+            }
+            Settled::There { slot } => slot,
+        };
+        E::put(slots, i, slot);
     }
     PlacedAll {
         answer: Ok(()),
