@@ -1,9 +1,9 @@
 // Refusals: the numbers of 01's table, once.
 //
-// Each kind of answer in this repository is an enum of its own, whose cases are just the refusals that the call can
-// give, with their values. What they share is here: the names with their numbers, the refusals 1 to 7 that calls on a
-// table test first, and the refusal of a range reduction, which every caller hands on unchanged. A definition
-// `report_of` beside each answer gives a case its number, by `number_of`, and its values.
+// Each call that can refuse answers a Result, whose error is an enum of just the refusals that the call can give, with
+// their values. What these share is here: the names with their numbers, the refusals 1 to 7 that calls on a table test
+// first, and the refusal of a range reduction, which every caller hands on unchanged. A definition `report_of` beside
+// each answer gives a case its number, by `number_of`, and its values.
 
 #![tactic(auto)]
 
@@ -77,7 +77,7 @@ pub struct RangeRefusal {
     pub probe: LogicalProbe,
 }
 
-// The row of a refusal of the gate.
+// The row of a refusal of the gate. A function by name and no From: each caller hands its answer to `number`, and would say `Name::from` for it.
 #[tactic(auto, unfolding(crate::specs::Table::name_of))]
 pub fn gate_name(gate: Gate) -> Name
     ensures { result ≡ name_of gate }
