@@ -2,7 +2,6 @@
 ghost use Rattle.std.specs.Prelude.{◌≡◌};
 ghost use Rattle.elastic_probe.specs.Budget.{reason_of, budget_of};
 
-use std::cmp::min;
 use words::power::ceil_log2;
 use words::product::{multiply, multiply_high};
 
@@ -38,7 +37,7 @@ pub fn budget(free: u64, level: u64, e: u64, c: u64) -> Result<u64, BudgetRefusa
         return Err(BudgetRefusal::Factor);
     }
     let log = ceil_log2((level - 1) / free + 1);
-    let capped = min(log * log, e);
+    let capped = (log * log).min(e);
     if 0 < multiply_high(c, capped) {
         return Err(BudgetRefusal::Product);
     }
