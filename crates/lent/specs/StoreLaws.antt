@@ -1,12 +1,13 @@
 -- Laws of words lent as numbers or as bytes. Assumes nothing.
-use Rattle.std.specs.Prelude.{Bool, true, false, List, ◌⊎◌, ◌≡◌, refl, ℕ, ◌+◌, ◌*◌, ◌/◌, ◌%◌, ◌^◌, ◌<◌, ◌≤◌, ltb, length, get_or, set}
+use Rattle.std.specs.Prelude.{Bool, true, false, List, ◌⊎◌, ◌≡◌, refl, ℕ, ◌+◌, ◌*◌, ◌/◌, ◌%◌, ◌^◌, ◌<◌, ◌≤◌, ltb, length, get_or, set, replicate}
+use Rattle.std.proofs.lemmas.List.{length-replicate}
 use Rattle.std.proofs.Common.{inl, inr, ap, sym, ◌∙◌, arith, length-set, get_or-set_same, get_or-set_other, ext_get_or, ltb-true, ltb-false}
 use Rattle.std.proofs.lemmas.List.Edits.{sets}
 use Rattle.std.proofs.Math.Seq.{length-sets}
 use Rattle.words.specs.Bytes.{bytes_of, num_at}
 use Rattle.words.specs.BytesLaws.{length_bytes, num_sets, num_stored}
 use Rattle.lent.specs.Lent.{words_from, words_of, whole_of, words_in}
-use Rattle.lent.specs.LentLaws.{length_from, from_at, words_at_lem}
+use Rattle.lent.specs.LentLaws.{length_from, from_at, words_at_lem, from_zeros}
 
 -- ---- whole words
 
@@ -111,3 +112,20 @@ module _ (bytes : Bool) (words lent : List ℕ) (k x : ℕ) (h : k < length (wor
   pub put_numbers : bytes ≡ false → words_in bytes (set words k x) lent ≡ set (words_in bytes words lent) k x
   put_numbers e =
       in_numbers bytes (set words k x) lent e ∙ ap (λ (l : List ℕ). set l k x) (sym (in_numbers bytes words lent e))
+
+-- ---- an index of whole words
+
+module _ (b : List ℕ) (k : ℕ) (h : k < length (whole_of b)) where
+  pub whole_fits : k * 8 + 8 ≤ length b
+  whole_fits = let m = length_wholes b in omega arith
+
+  pub whole_word : get_or (words_of b) k 0 ≡ get_or (whole_of b) k 0
+  whole_word = let f = whole_fits in words_at_lem b k (omega arith) ∙ sym (whole_at b k (omega arith))
+
+  pub whole_put : (x : ℕ) → x < 2 ^ 64 → whole_of (sets b (k * 8) (bytes_of 8 x)) ≡ set (whole_of b) k x
+  whole_put x small = let f = whole_fits in whole_set b k x (omega arith) small
+
+-- bytes that are all 0
+pub whole_zeros : (b : List ℕ) → whole_of (replicate (length b) 0) ≡ replicate (length (whole_of b)) 0
+unfolding whole_of
+whole_zeros b = rw (length-replicate {A = ℕ} (length b) 0, length_from) (from_zeros (length b) 0 (length b / 8))
