@@ -1,5 +1,5 @@
 -- What the gates and the plans report, in 01's words: refusals by name and in their order, then the values. Assumes nothing.
-use Rattle.std.specs.Prelude.{Bool, true, false, not, List, [], ◌∷◌, ◌≡◌, refl, ℕ, ◌+◌, ◌*◌, eqb, ltb, get_or}
+use Rattle.std.specs.Prelude.{Ok, Err, Bool, true, false, not, List, [], ◌∷◌, ◌≡◌, refl, ℕ, ◌+◌, ◌*◌, eqb, ltb, get_or}
 use Rattle.std.proofs.Common.{ap, sym}
 use Rattle.refusal.specs.Table.{name_of, Report, answered, refused}
 use Rattle.refusal.specs.declared.Gate.{Gate}
@@ -7,11 +7,8 @@ use Rattle.refusal.specs.declared.Gate.TheVariants as gate
 use Rattle.refusal.specs.declared.Name.{Name}
 use Rattle.refusal.specs.declared.Name.TheVariants as name
 use Rattle.words.specs.Pick.{pick}
-use Rattle.geometry.specs.declared.config.Gated.{Gated}
-use Rattle.geometry.specs.declared.config.Gated.TheVariants.{Passed}
 use Rattle.geometry.specs.declared.funnel.FunnelPlan.{FunnelPlan}
-use Rattle.geometry.specs.declared.funnel.FunnelPlanned.TheVariants as funnel
-use Rattle.geometry.specs.Config.{refuse_if, config_then, gated_report, maximum}
+use Rattle.geometry.specs.Config.{Gated, refuse_if, config_then, gated_report, maximum}
 use Rattle.geometry.specs.Elastic.{levels_of, lay_by, elastic_plan_of, planned_report as elasticReport}
 use Rattle.geometry.specs.Funnel.{IsPlan}
 use Rattle.geometry.specs.FunnelGate.{has_layout, funnel_gate, Planned, planned_report}
@@ -50,7 +47,7 @@ funnel_gate_report n e =
 
 -- "F: n, e, maximum, alpha, beta, g, width, s, first count": the values of a plan, s being its special length and its counts those that are lent
 pub funnel_plan_report : (n e : ℕ) (p : FunnelPlan) (cs : List ℕ) → IsPlan n e p cs
-    → planned_report (funnel.Plan p) ≡ answered (maximum n e ∷ (4 * e + 10) ∷ (2 * e) ∷ loglog n ∷ (2 * loglog n) ∷ p.special_len ∷ get_or cs 0 0 ∷ [])
+    → planned_report (Ok p) ≡ answered (maximum n e ∷ (4 * e + 10) ∷ (2 * e) ∷ loglog n ∷ (2 * loglog n) ∷ p.special_len ∷ get_or cs 0 0 ∷ [])
 funnel_plan_report n e p cs plan = rw (
   plan.numbers.is_maximum,
   plan.numbers.is_alpha,
@@ -61,8 +58,8 @@ funnel_plan_report n e p cs plan = rw (
 )
 
 -- a refused plan reports what its gate does
-pub funnel_refusal_report : (n e : ℕ) (before after : List ℕ) (g : Gate) → Planned n e before (funnel.Refused g) after
-    → planned_report (funnel.Refused g) ≡ gated_report (funnel_gate n e)
+pub funnel_refusal_report : (n e : ℕ) (before after : List ℕ) (g : Gate) → Planned n e before (Err g) after
+    → planned_report (Err g) ≡ gated_report (funnel_gate n e)
 unfolding Planned
 funnel_refusal_report n e before after g said = sym (ap gated_report said.0)
 
@@ -74,7 +71,7 @@ pub elastic_plan_report : (n e : ℕ) (lengths quotas : List ℕ) → elasticRep
 unfolding elastic_plan_of lay_by config_then name_of elasticReport
 elastic_plan_report n e lengths quotas = go (ltb n 2) (eqb e 0) (ltb 4294967296 n)
   where
-    go : (a b c : Bool) → elasticReport (lay_by (refuse_if a gate.N (refuse_if b gate.ZeroExp (refuse_if c gate.Size Passed))) n e lengths quotas).answer
+    go : (a b c : Bool) → elasticReport (lay_by (refuse_if a gate.N (refuse_if b gate.ZeroExp (refuse_if c gate.Size (Ok tt)))) n e lengths quotas).answer
         ≡ pick a (refused name.N []) (pick b (refused name.ZeroExp []) (pick c (refused name.Size []) (answered (levels_of n ∷ maximum n e ∷ []))))
     go true b c = refl
     go false true c = refl

@@ -1,14 +1,11 @@
 -- The layout of an elastic table: the lengths of its levels and the quotas of its batches. Assumes nothing.
-use Rattle.std.specs.Prelude.{List, [], ◌∷◌, ℕ, zero, suc, ◌+◌, ◌-◌, ◌/◌, ◌^◌, ◌≤◌, ◌<◌, min, get_or, take, eqb, ltb, Bool, true, false}
+use Rattle.std.specs.Prelude.{Result, Ok, Err, List, [], ◌∷◌, ℕ, zero, suc, ◌+◌, ◌-◌, ◌/◌, ◌^◌, ◌≤◌, ◌<◌, min, get_or, take, eqb, ltb, Bool, true, false}
 use Rattle.words.specs.Log.{ceil_log2}
 use Rattle.words.specs.Pick.{pick}
 use Rattle.refusal.specs.Table.{name_of, Report, answered, refused}
-use Rattle.geometry.specs.declared.config.Gated.{Gated}
-use Rattle.geometry.specs.declared.config.Gated.TheVariants.{Passed, Refused}
 use Rattle.geometry.specs.declared.elastic.ElasticPlan.{ElasticPlan}
-use Rattle.geometry.specs.declared.elastic.ElasticPlanned.{ElasticPlanned}
-use Rattle.geometry.specs.declared.elastic.ElasticPlanned.TheVariants as planned
-use Rattle.geometry.specs.Config.{config_gate, maximum}
+use Rattle.refusal.specs.declared.Gate.{Gate}
+use Rattle.geometry.specs.Config.{Gated, config_gate, maximum}
 
 -- "each takes half of what remains, rounded up; the last takes the rest": the length of a level with `after` levels after it
 unfoldable pub level_length : (after rest : ℕ) → ℕ
@@ -99,11 +96,11 @@ offset_at n level = total (take level (lengths_of n))
 
 -- what a call leaves: its answer, and both arrays
 pub record Laid : Type 0 where
-  pub answer : ElasticPlanned
+  pub answer : Result ElasticPlan Gate
   pub lengths : List ℕ
   pub quotas : List ℕ
 
-abbrev pub laid : ElasticPlanned → List ℕ → List ℕ → Laid
+abbrev pub laid : Result ElasticPlan Gate → List ℕ → List ℕ → Laid
 laid answer lengths quotas = record { answer = answer; lengths = lengths; quotas = quotas }
 
 -- the plan of n and e
@@ -112,16 +109,16 @@ plan_of n e = record { levels = levels_of n; maximum = maximum n e }
 
 -- refusals 1 to 3 leave the arrays as they were; a plan fills both, with zeros past the last level
 unfoldable pub lay_by : Gated → (n e : ℕ) → List ℕ → List ℕ → Laid
-lay_by (Refused gate) n e ls qs = laid (planned.Refused gate) ls qs
-lay_by Passed n e ls qs = laid (planned.Plan (plan_of n e)) (padded 32 (lengths_of n)) (padded 32 (quotas_of n e))
+lay_by (Err gate) n e ls qs = laid (Err gate) ls qs
+lay_by (Ok _) n e ls qs = laid (Ok (plan_of n e)) (padded 32 (lengths_of n)) (padded 32 (quotas_of n e))
 
 unfoldable pub elastic_plan_of : (n e : ℕ) → List ℕ → List ℕ → Laid
 elastic_plan_of n e ls qs = lay_by (config_gate n e) n e ls qs
 
 -- number and values of an answer
-unfoldable pub planned_report : ElasticPlanned → Report
-planned_report (planned.Plan p) = answered (p.levels ∷ p.maximum ∷ [])
-planned_report (planned.Refused gate) = refused (name_of gate) []
+unfoldable pub planned_report : Result ElasticPlan Gate → Report
+planned_report (Ok p) = answered (p.levels ∷ p.maximum ∷ [])
+planned_report (Err gate) = refused (name_of gate) []
 
 -- "plan not that of n and e": whether every number of a plan is that of n and e
 unfoldable pub is_plan_of : (n e : ℕ) → ElasticPlan → Bool

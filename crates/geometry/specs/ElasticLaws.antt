@@ -1,5 +1,5 @@
 -- Laws of the elastic layout. Assumes nothing.
-use Rattle.std.specs.Prelude.{◌≡◌, refl, List, [], ◌∷◌, ◌++◌, length, take, Bool, true, false, eqb, ltb}
+use Rattle.std.specs.Prelude.{Ok, Err, ◌≡◌, refl, List, [], ◌∷◌, ◌++◌, length, take, Bool, true, false, eqb, ltb}
 use Rattle.std.proofs.Math.Path.{ap, sym}
 use Rattle.std.proofs.Common.{◌∙◌, pow-suc, div-le_self, le-div_iff_mul-le, lt_of_not-le, mul-le-mul_left, mul_comm, add-mul, div-lt_iff_lt-mul, pow_mono, eq-eqb, ne_eqb, eqb-true, lt-ltb, le-ltb, ltb-true, ltb-false}
 use Prim.Native.Nat.{ℕ, zero, suc, ◌+◌, ◌-◌, ◌*◌, ◌/◌, ◌^◌, ◌≤◌, ◌<◌, min}
@@ -13,8 +13,6 @@ use Rattle.words.specs.Pick.{pick}
 use Rattle.words.specs.LogLaws.{log_leading, log_computed}
 use Rattle.geometry.specs.Config.{Configured, config_gate, maximum}
 use Rattle.refusal.specs.declared.Gate.{Gate}
-use Rattle.geometry.specs.declared.config.Gated.TheVariants.{Passed, Refused}
-use Rattle.geometry.specs.declared.elastic.ElasticPlanned.TheVariants as planned
 use Rattle.geometry.specs.declared.elastic.ElasticPlan.{ElasticPlan}
 use Rattle.geometry.specs.Elastic.{is_plan_of, both, batch_from, batch_of, IsBatch, laid, lay_by, elastic_plan_of, level_length, split, levels_of, lengths_of, ceil_three_quarters, next_length, next_quota, later_quotas, uncut_quotas, cut, quotas_of, padded, total, length_at, offset_at}
 
@@ -366,13 +364,13 @@ module _ (n e : ℕ) (p : ElasticPlan) {k : ℕ} (is : k ≡ levels_of n) where
 -- ---- the plan
 
 module _ (n e : ℕ) (ls qs : List ℕ) where
-  pub lay_refused : (g : Gate) → config_gate n e ≡ Refused g → laid (planned.Refused g) ls qs ≡ elastic_plan_of n e ls qs
+  pub lay_refused : (g : Gate) → config_gate n e ≡ Err g → laid (Err g) ls qs ≡ elastic_plan_of n e ls qs
   unfolding elastic_plan_of lay_by
   lay_refused g h = rw h
 
-  pub lay_plan : (levels most : ℕ) (ls' qs' : List ℕ) → config_gate n e ≡ Passed → levels ≡ levels_of n → most ≡ maximum n e
+  pub lay_plan : (levels most : ℕ) (ls' qs' : List ℕ) → config_gate n e ≡ Ok tt → levels ≡ levels_of n → most ≡ maximum n e
       → ls' ≡ padded 32 (split levels n) → qs' ≡ padded 32 (cut most (later_quotas e 0 (split levels n)))
-      → laid (planned.Plan (record { levels = levels; maximum = most })) ls' qs' ≡ elastic_plan_of n e ls qs
+      → laid (Ok (record { levels = levels; maximum = most })) ls' qs' ≡ elastic_plan_of n e ls qs
   unfolding elastic_plan_of lay_by lengths_of quotas_of
   lay_plan levels most ls' qs' h a b f g = rw (h, f, g, a, b, uncut_later e (split (levels_of n) n))
 

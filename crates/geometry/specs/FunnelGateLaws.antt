@@ -1,16 +1,13 @@
 -- Laws of the funnel's gate: when it refuses, that it passes exactly where there is a plan, that the answer is one, and the
 -- truth of the test whether given numbers are the plan. Assumes nothing.
-use Rattle.std.specs.Prelude.{Bool, not, List, ltb}
+use Rattle.std.specs.Prelude.{Result, Ok, Err, Bool, not, List, ltb}
 use Rattle.std.proofs.Math.Bool.{true, false}
 use Rattle.std.proofs.Math.Path.{◌≡◌, refl}
 use Rattle.std.proofs.Common.{sym, ap, ◌∙◌, arith, lt-ltb, le-ltb}
 use Prim.Native.Nat.{ℕ, zero, suc, ◌≤◌, ◌<◌}
 use Rattle.refusal.specs.declared.Gate.{Gate}
 use Rattle.refusal.specs.declared.Gate.TheVariants as gate
-use Rattle.geometry.specs.declared.config.Gated.TheVariants.{Passed, Refused as GateRefused}
 use Rattle.geometry.specs.declared.funnel.FunnelPlan.{FunnelPlan}
-use Rattle.geometry.specs.declared.funnel.FunnelPlanned.{FunnelPlanned}
-use Rattle.geometry.specs.declared.funnel.FunnelPlanned.TheVariants.{Plan, Refused}
 use Rattle.geometry.specs.Config.{Configured, refuse_if, config_gate}
 use Rattle.geometry.specs.ConfigLaws.{config_pass, config_refused, config_passed, config_facts, config_gate_facts}
 use Rattle.geometry.specs.Says.{Says}
@@ -49,59 +46,59 @@ module _ (n e : ℕ) where
   layout_false : (Layout n e → ⊥) → has_layout n e ≡ false
   layout_false f = says_one (has_layout n e) false (Layout n e) (has_layout_says n e) f
 
-  pub gate_config : (g : Gate) → config_gate n e ≡ GateRefused g → funnel_gate n e ≡ GateRefused g
+  pub gate_config : (g : Gate) → config_gate n e ≡ Err g → funnel_gate n e ≡ Err g
   unfolding funnel_gate
   gate_config g h = config_refused n e _ g h
 
-  module _ (h : config_gate n e ≡ Passed) where
-    pub gate_exponent : e < 3 → funnel_gate n e ≡ GateRefused gate.Exponent
+  module _ (h : config_gate n e ≡ Ok tt) where
+    pub gate_exponent : e < 3 → funnel_gate n e ≡ Err gate.Exponent
     unfolding funnel_gate
     gate_exponent l = config_passed n e _ h ∙ rw (lt-ltb e 3 l)
 
-    pub gate_layout : 3 ≤ e → (Layout n e → ⊥) → funnel_gate n e ≡ GateRefused gate.Layout
+    pub gate_layout : 3 ≤ e → (Layout n e → ⊥) → funnel_gate n e ≡ Err gate.Layout
     unfolding funnel_gate
     gate_layout l f = config_passed n e _ h ∙ rw (le-ltb e 3 l, layout_false f)
 
   -- the gate passes exactly where there is a plan
-  pub gate_pass : Layout n e → funnel_gate n e ≡ Passed
+  pub gate_pass : Layout n e → funnel_gate n e ≡ Ok tt
   unfolding funnel_gate
   gate_pass l =
       let c = l.2.configured in
       config_pass n e _ c.least (λ z. omega (arith, c.some)) c.most ∙ rw (le-ltb e 3 l.2.exponent, layout_true l)
 
-  pub gate_passed : funnel_gate n e ≡ Passed → Layout n e
+  pub gate_passed : funnel_gate n e ≡ Ok tt → Layout n e
   unfolding funnel_gate
   gate_passed h = go (ltb e 3) (has_layout n e) refl (config_facts n e _ h).1
     where
-      go : (x y : Bool) → has_layout n e ≡ y → refuse_if x gate.Exponent (refuse_if (not y) gate.Layout Passed) ≡ Passed → Layout n e
+      go : (x y : Bool) → has_layout n e ≡ y → refuse_if x gate.Exponent (refuse_if (not y) gate.Layout (Ok tt)) ≡ Ok tt → Layout n e
       go false true b k = says_true (has_layout n e) (Layout n e) (has_layout_says n e) b
       go true y b k = let z : ◌≡◌ {A = ℕ} 0 1 = cc in absurd (omega arith)
       go false false b k = let z : ◌≡◌ {A = ℕ} 0 1 = cc in absurd (omega arith)
 
-pub plan_passes : {n e : ℕ} {p : FunnelPlan} {cs : List ℕ} → IsPlan n e p cs → funnel_gate n e ≡ Passed
+pub plan_passes : {n e : ℕ} {p : FunnelPlan} {cs : List ℕ} → IsPlan n e p cs → funnel_gate n e ≡ Ok tt
 plan_passes {n} {e} {p} {cs} i = gate_pass n e (p, cs, i)
 
 -- what an answer says
 module _ (n e : ℕ) (before after : List ℕ) where
-  pub planned_plan : (p : FunnelPlan) → Planned n e before (Plan p) after → IsPlan n e p after
+  pub planned_plan : (p : FunnelPlan) → Planned n e before (Ok p) after → IsPlan n e p after
   unfolding Planned
   planned_plan p i = i
 
-  pub planned_refused : (g : Gate) → Planned n e before (Refused g) after → (funnel_gate n e ≡ GateRefused g) × (after ≡ before)
+  pub planned_refused : (g : Gate) → Planned n e before (Err g) after → (funnel_gate n e ≡ Err g) × (after ≡ before)
   unfolding Planned
   planned_refused g i = i
 
 -- the answer and the counts at exit are one
-pub planned_unique : (n e : ℕ) (old : List ℕ) (r t : FunnelPlanned) (a b : List ℕ) → Planned n e old r a → Planned n e old t b → (r ≡ t) × (a ≡ b)
+pub planned_unique : (n e : ℕ) (old : List ℕ) (r t : Result FunnelPlan Gate) (a b : List ℕ) → Planned n e old r a → Planned n e old t b → (r ≡ t) × (a ≡ b)
 unfolding Planned
-planned_unique n e old (Plan p) (Plan q) a b i j = let u = plan_unique i j in (ap Plan u.0, u.1)
-planned_unique n e old (Plan p) (Refused h) a b i j = let k = sym (plan_passes i) ∙ j.0 in let z : ◌≡◌ {A = ℕ} 0 1 = cc in absurd (omega arith)
-planned_unique n e old (Refused g) (Plan q) a b i j = let k = sym (plan_passes j) ∙ i.0 in let z : ◌≡◌ {A = ℕ} 0 1 = cc in absurd (omega arith)
-planned_unique n e old (Refused g) (Refused h) a b i j = let k = sym i.0 ∙ j.0 in (let x : g ≡ h = cc in ap Refused x, i.1 ∙ sym j.1)
+planned_unique n e old (Ok p) (Ok q) a b i j = let u = plan_unique i j in (ap Ok u.0, u.1)
+planned_unique n e old (Ok p) (Err h) a b i j = let k = sym (plan_passes i) ∙ j.0 in let z : ◌≡◌ {A = ℕ} 0 1 = cc in absurd (omega arith)
+planned_unique n e old (Err g) (Ok q) a b i j = let k = sym (plan_passes j) ∙ i.0 in let z : ◌≡◌ {A = ℕ} 0 1 = cc in absurd (omega arith)
+planned_unique n e old (Err g) (Err h) a b i j = let k = sym i.0 ∙ j.0 in (let x : g ≡ h = cc in ap Err x, i.1 ∙ sym j.1)
 
 -- what the code finds on the way
-module _ (n e : ℕ) (h : config_gate n e ≡ Passed) (l : 3 ≤ e) where
-  pub special_none : (s : ℕ) → s ≡ 0 → FoundFor n e s → funnel_gate n e ≡ GateRefused gate.Layout
+module _ (n e : ℕ) (h : config_gate n e ≡ Ok tt) (l : 3 ≤ e) where
+  pub special_none : (s : ℕ) → s ≡ 0 → FoundFor n e s → funnel_gate n e ≡ Err gate.Layout
   unfolding FoundFor
   special_none zero z f = gate_layout n e h l (λ y. f y.0.special_len y.2.special.largest.holds)
   special_none (suc s) z f = absurd (omega arith)
@@ -111,5 +108,5 @@ module _ (n e : ℕ) (h : config_gate n e ≡ Passed) (l : 3 ≤ e) where
   special_some zero z f = absurd (z refl)
   special_some (suc s) z f = (config_gate_facts n e h, l, f)
 
-pub special_passes : (n e s : ℕ) → Configured n e → 3 ≤ e → IsLargest (SpecialLength n e) s → funnel_gate n e ≡ Passed
+pub special_passes : (n e s : ℕ) → Configured n e → 3 ≤ e → IsLargest (SpecialLength n e) s → funnel_gate n e ≡ Ok tt
 special_passes n e s c h l = gate_pass n e (special_layout n e s c h l)

@@ -8,27 +8,20 @@ use words::power::floor_div_pow2;
 // "n from 2 to 4,294,967,296"
 pub const LARGEST_N: u64 = 4294967296;
 
-// What a gate says: all its tests passed, or the first that failed.
-#[derive(Clone, Copy)]
-pub enum Gated {
-    Passed,
-    Refused(Gate),
-}
-
 // The tests that every layout begins with, in their order: N, ZEROEXP, SIZE.
-pub fn config_gate(n: u64, e: u32) -> Gated
+pub fn config_gate(n: u64, e: u32) -> Result<(), Gate>
     ensures { result ≡ config_gate n e }
 {
     if n < 2 {
-        return Gated::Refused(Gate::N);
+        return Err(Gate::N);
     }
     if e == 0 {
-        return Gated::Refused(Gate::ZeroExp);
+        return Err(Gate::ZeroExp);
     }
     if LARGEST_N < n {
-        return Gated::Refused(Gate::Size);
+        return Err(Gate::Size);
     }
-    Gated::Passed
+    Ok(())
 }
 
 // The largest number of members that a table takes.

@@ -7,7 +7,7 @@ ghost use Rattle.std.specs.Prelude.{◌≡◌, ℕ, ◌+◌, ◌-◌, ◌*◌, �
 ghost use Rattle.geometry.specs.Config.{Configured};
 ghost use Rattle.geometry.specs.Elastic.{batch_from, level_length, split, cut, ceil_three_quarters, later_quotas, next_length, next_quota, lengths_of, quotas_of, levels_of, padded, laid, elastic_plan_of, is_plan_of};
 
-use crate::config::{Gated, config_gate, max_insertions};
+use crate::config::{config_gate, max_insertions};
 use refusal::Gate;
 use words::power::{ceil_log2, floor_div_pow2};
 
@@ -18,32 +18,20 @@ pub struct ElasticPlan {
     pub maximum: u64,
 }
 
-#[derive(Clone, Copy)]
-pub enum ElasticPlanned {
-    Plan(ElasticPlan),
-    Refused(Gate),
-}
-
 // The plan of n and e; the lengths of its levels and the quotas of its batches at the front of two arrays, zeros behind.
 pub fn elastic_plan(
     n: u64,
     e: u32,
     lengths: &mut [u64; 32],
     quotas: &mut [u64; 32],
-) -> ElasticPlanned
+) -> Result<ElasticPlan, Gate>
     ensures { laid result lengths.new quotas.new ≡ elastic_plan_of n e lengths.old quotas.old }
 {
-    match config_gate(n, e) {
-        Gated::Refused(gate) => {
-            return ElasticPlanned::Refused(gate);
-        }
-        Gated::Passed => {
-            let levels = ceil_log2(n);
-            let maximum = max_insertions(n, e);
-            fill(n, e, levels, maximum, lengths, quotas);
-            return ElasticPlanned::Plan(ElasticPlan { levels, maximum });
-        }
-    }
+    config_gate(n, e)?;
+    let levels = ceil_log2(n);
+    let maximum = max_insertions(n, e);
+    fill(n, e, levels, maximum, lengths, quotas);
+    Ok(ElasticPlan { levels, maximum })
 }
 
 // Whether every number of a plan is that of n and e.

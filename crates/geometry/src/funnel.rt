@@ -1,6 +1,5 @@
-// The plan of a funnel table: its numbers, and what a request for it is answered. Carries the Rust's `FunnelPlan`; the functions
+// The plan of a funnel table: its numbers. Carries the Rust's `FunnelPlan`; the functions
 // are in `geometry_funnel`.
-use refusal::Gate;
 
 // The numbers of a plan; the counts of its levels are lent beside it, 118 of them, 0 past the last level.
 #[derive(Clone, Copy)]
@@ -16,11 +15,4 @@ pub struct FunnelPlan {
     pub fallback_bucket_count: u64,
     pub total_buckets: u64,
     pub first_bucket_count: u64,
-}
-
-// What a request for a plan is answered.
-#[derive(Clone, Copy)]
-pub enum FunnelPlanned {
-    Plan(FunnelPlan),
-    Refused(Gate),
 }

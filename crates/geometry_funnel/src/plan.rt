@@ -11,40 +11,27 @@ ghost use Rattle.geometry_funnel.specs.SpecialGate.{SpecialOr};
 
 use crate::counts_test::plan_counts_hold;
 use crate::special_test::special_parts_hold;
-use geometry::config::{Gated, LARGEST_N, config_gate, max_insertions};
-use geometry::funnel::{FunnelPlan, FunnelPlanned};
+use geometry::config::{LARGEST_N, config_gate, max_insertions};
+use geometry::funnel::FunnelPlan;
 use geometry_parts::counts::fill_counts;
 use geometry_parts::special::{base_two_loglog_ceiling, special_len_of};
 use refusal::Gate;
 use words::clear::clear_words;
 
-// The special length of n and e, or the gate's refusal.
-#[derive(Clone, Copy)]
-enum SpecialGated {
-    Length(u64),
-    Refused(Gate),
-}
-
 // The plan of n and e, with the counts of its levels written to `counts`; a refusal leaves these as they are.
-pub fn funnel_plan(n: u64, e: u32, counts: &mut [u64; 118]) -> FunnelPlanned
+pub fn funnel_plan(n: u64, e: u32, counts: &mut [u64; 118]) -> Result<FunnelPlan, Gate>
     ensures { Planned n e counts.old result counts.new }
 {
-    let special = special_gate(n, e);
-    match special {
-        SpecialGated::Length(s) => FunnelPlanned::Plan(write_plan(n, e, s, counts)),
-        SpecialGated::Refused(g) => FunnelPlanned::Refused(g),
-    }
+    let s = special_gate(n, e)?;
+    Ok(write_plan(n, e, s, counts))
 }
 
 // The tests 1 to 5 of a funnel table: whether n and e have a plan.
-pub fn funnel_gate(n: u64, e: u32) -> Gated
+pub fn funnel_gate(n: u64, e: u32) -> Result<(), Gate>
     ensures { result ≡ funnel_gate n e }
 {
-    let special = special_gate(n, e);
-    match special {
-        SpecialGated::Length(_) => Gated::Passed,
-        SpecialGated::Refused(g) => Gated::Refused(g),
-    }
+    special_gate(n, e)?;
+    Ok(())
 }
 
 // Whether these are the plan of n and e: every number of it, and all 118 entries. No exponent above 27 has a plan.
@@ -79,23 +66,18 @@ pub fn is_funnel_plan(n: u64, e: u32, plan: FunnelPlan, counts: &[u64; 118]) -> 
 }
 
 // The gate with what it finds on the way: where there is a special length there is a plan.
-fn special_gate(n: u64, e: u32) -> SpecialGated
+fn special_gate(n: u64, e: u32) -> Result<u64, Gate>
     ensures { SpecialOr n e result }
 {
-    let config = config_gate(n, e);
-    match config {
-        Gated::Refused(g) => SpecialGated::Refused(g),
-        Gated::Passed => {
-            if e < 3 {
-                return SpecialGated::Refused(Gate::Exponent);
-            }
-            let s = special_len_of(n, e as u64);
-            if s == 0 {
-                return SpecialGated::Refused(Gate::Layout);
-            }
-            SpecialGated::Length(s)
-        }
+    config_gate(n, e)?;
+    if e < 3 {
+        return Err(Gate::Exponent);
     }
+    let s = special_len_of(n, e as u64);
+    if s == 0 {
+        return Err(Gate::Layout);
+    }
+    Ok(s)
 }
 
 // The plan with the special length s.
