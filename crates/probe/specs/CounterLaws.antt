@@ -1,5 +1,5 @@
 -- Laws of counters: shifts are sums, and the limits. Assumes nothing.
-use Rattle.std.specs.Prelude.{◌≡◌, ℕ, ◌+◌, ◌*◌, ◌%◌, ◌^◌, ◌<◌, ◌≤◌, Bool, true, false, not, bit_or, nat_lt}
+use Rattle.std.specs.Prelude.{◌≡◌, ℕ, ◌+◌, ◌*◌, ◌%◌, ◌^◌, ◌<◌, ◌≤◌, Bool, true, false, not, bit_or, nat_lt, Some, None}
 use Rattle.std.proofs.Math.Path.{sym}
 use Rattle.std.proofs.Common.{ap, ap₂, ◌∙◌, arith}
 use Rattle.std.proofs.lemmas.Nat.{or_shifted}
@@ -7,7 +7,6 @@ use borrow.Author.Tests.{lt-ltb, le-ltb, ltb-true, ltb-false, not-true, not-fals
 use Rattle.probe.specs.Counter.{elastic_counter_of, elastic_packed_of, tag_of, level_of, funnel_counter_of, funnel_packed_of}
 use Rattle.probe.specs.declared.counter.Domain.{Domain}
 use Rattle.probe.specs.declared.counter.Domain.TheVariants.{Ordinary, Primary, FallbackA, FallbackB}
-use Rattle.probe.specs.declared.counter.PackedCounter.TheVariants.{Packed, Counter}
 
 -- ---- elastic
 
@@ -32,21 +31,21 @@ pub elastic_next : (level probe retry : ℕ) → elastic_counter_of level probe 
 elastic_next level probe retry = omega arith
 
 module _ (level probe retry : ℕ) where
-  pub packed_level : 32 ≤ level → Counter ≡ elastic_packed_of level probe retry
+  pub packed_level : 32 ≤ level → None ≡ elastic_packed_of level probe retry
   unfolding elastic_packed_of
   packed_level h = sym (rw (le-ltb level 32 h))
 
   module _ (hl : level < 32) where
-    pub packed_probe : 8192 ≤ probe → Counter ≡ elastic_packed_of level probe retry
+    pub packed_probe : 8192 ≤ probe → None ≡ elastic_packed_of level probe retry
     unfolding elastic_packed_of
     packed_probe h = sym (rw (lt-ltb level 32 hl, le-ltb probe 8192 h))
 
     module _ (hp : probe < 8192) where
-      pub packed_retry : 8 ≤ retry → Counter ≡ elastic_packed_of level probe retry
+      pub packed_retry : 8 ≤ retry → None ≡ elastic_packed_of level probe retry
       unfolding elastic_packed_of
       packed_retry h = sym (rw (lt-ltb level 32 hl, lt-ltb probe 8192 hp, le-ltb retry 8 h))
 
-      pub packed : retry < 8 → Packed (elastic_counter_of level probe retry) ≡ elastic_packed_of level probe retry
+      pub packed : retry < 8 → Some (elastic_counter_of level probe retry) ≡ elastic_packed_of level probe retry
       unfolding elastic_packed_of
       packed h = sym (rw (lt-ltb level 32 hl, lt-ltb probe 8192 hp, lt-ltb retry 8 h))
 
@@ -98,20 +97,20 @@ module _ (domain : Domain) (t : Bool) (is : t ≡ nat_lt (level_of domain) (2 ^ 
   domain_below h = ltb-true (level_of domain) (2 ^ 46) (sym is ∙ not-false t h)
 
 module _ (domain : Domain) (probe retry : ℕ) where
-  pub funnel_packed_level : 2 ^ 46 ≤ level_of domain → Counter ≡ funnel_packed_of domain probe retry
+  pub funnel_packed_level : 2 ^ 46 ≤ level_of domain → None ≡ funnel_packed_of domain probe retry
   unfolding funnel_packed_of
   funnel_packed_level h = sym (rw (le-ltb (level_of domain) (2 ^ 46) h))
 
   module _ (hl : level_of domain < 2 ^ 46) where
-    pub funnel_packed_probe : 256 ≤ probe → Counter ≡ funnel_packed_of domain probe retry
+    pub funnel_packed_probe : 256 ≤ probe → None ≡ funnel_packed_of domain probe retry
     unfolding funnel_packed_of
     funnel_packed_probe h = sym (rw (lt-ltb (level_of domain) (2 ^ 46) hl, le-ltb probe 256 h))
 
     module _ (hp : probe < 256) where
-      pub funnel_packed_retry : 256 ≤ retry → Counter ≡ funnel_packed_of domain probe retry
+      pub funnel_packed_retry : 256 ≤ retry → None ≡ funnel_packed_of domain probe retry
       unfolding funnel_packed_of
       funnel_packed_retry h = sym (rw (lt-ltb (level_of domain) (2 ^ 46) hl, lt-ltb probe 256 hp, le-ltb retry 256 h))
 
-      pub funnel_packed : retry < 256 → Packed (funnel_counter_of domain probe retry) ≡ funnel_packed_of domain probe retry
+      pub funnel_packed : retry < 256 → Some (funnel_counter_of domain probe retry) ≡ funnel_packed_of domain probe retry
       unfolding funnel_packed_of
       funnel_packed h = sym (rw (lt-ltb (level_of domain) (2 ^ 46) hl, lt-ltb probe 256 hp, lt-ltb retry 256 h))

@@ -1,5 +1,5 @@
 -- Laws of the reduction: one word at a time, the bounds of a draw, and the answers of the bare reductions in turn. Assumes nothing.
-use Rattle.std.specs.Prelude.{◌≡◌, ℕ, zero, suc, ◌+◌, ◌-◌, ◌*◌, ◌/◌, ◌%◌, ◌^◌, ◌<◌, ◌≤◌, Bool, true, false, leb, length, nat_le, slice_index, refl}
+use Rattle.std.specs.Prelude.{◌≡◌, ℕ, zero, suc, ◌+◌, ◌-◌, ◌*◌, ◌/◌, ◌%◌, ◌^◌, ◌<◌, ◌≤◌, Bool, true, false, leb, length, nat_le, slice_index, refl, Ok, Err}
 use Rattle.std.proofs.Math.Path.{sym, ap}
 use Rattle.std.proofs.Common.{◌∙◌, mod-lt, mul-lt-mul_of_pos_right}
 use native.Mathlib.Omega.{arith}
@@ -11,14 +11,9 @@ use Rattle.words.specs.Pick.{pick}
 use Rattle.probe.specs.Counter.{elastic_counter_of, level_of, funnel_counter_of}
 use Rattle.probe.specs.Word.{elastic_key_of, funnel_in_of, funnel_out_of, word_of, elastic_word_of, funnel_word_of}
 use Rattle.probe.specs.WordLaws.{word_below}
-use Rattle.probe.specs.Range.{words_at, FirstIndex, all_rejected, reduce_of, draw_of, Names, drawn_for, keyed_draw_of, elastic_draw_of, origin_of, domain_draw_of, funnel_draw_of, reduced_of, elastic_reduce_of, funnel_reduce_of}
+use Rattle.probe.specs.Range.{indexed, Trial, Drawn, Reduced, words_at, FirstIndex, all_rejected, reduce_of, draw_of, Names, drawn_for, keyed_draw_of, elastic_draw_of, origin_of, domain_draw_of, funnel_draw_of, reduced_of, elastic_reduce_of, funnel_reduce_of}
 use Rattle.probe.specs.declared.counter.Domain.{Domain}
-use Rattle.probe.specs.declared.range.Drawn.{Drawn}
-use Rattle.probe.specs.declared.range.Drawn.TheVariants as drawn
-use Rattle.probe.specs.declared.range.Trial.{Trial}
-use Rattle.probe.specs.declared.range.Trial.TheVariants.{Index, Rejected}
-use Rattle.probe.specs.declared.range.Reduced.{Reduced}
-use Rattle.probe.specs.declared.range.Reduced.TheVariants as reduced
+use Rattle.probe.specs.declared.range.ReduceRefusal.TheVariants as reduced
 
 -- ---- the list of words
 
@@ -61,19 +56,19 @@ module _ (inner outer base u used n word low : ℕ) (t : Bool)
     (is : word ≡ word_of inner outer base)
     (half : low ≡ word * u % 2 ^ 64)
     (test : t ≡ nat_le (2 ^ 64 % u) low) where
-  turn : reduce_of (words_at inner outer base n) u used ≡ pick t (Index (word * u / 2 ^ 64) (used + 1)) (reduce_of (words_at inner outer (base + 1) (n - 1)) u (used + 1))
+  turn : reduce_of (words_at inner outer base n) u used ≡ pick t (Ok (indexed (word * u / 2 ^ 64) (used + 1))) (reduce_of (words_at inner outer (base + 1) (n - 1)) u (used + 1))
   unfolding reduce_of words_at
   turn =
       let e : n ≡ suc (n - 1) = omega arith in
       ap (λ (m : ℕ). reduce_of (words_at inner outer base m) u used) e
-      ∙ ap (λ (v : ℕ). pick (nat_le (2 ^ 64 % u) (v * u % 2 ^ 64)) (Index (v * u / 2 ^ 64) (used + 1)) (reduce_of (words_at inner outer (base + 1) (n - 1)) u (used + 1))) (sym is)
-      ∙ ap (λ (b : Bool). pick b (Index (word * u / 2 ^ 64) (used + 1)) (reduce_of (words_at inner outer (base + 1) (n - 1)) u (used + 1))) (sym (test ∙ ap (leb (2 ^ 64 % u)) half))
+      ∙ ap (λ (v : ℕ). pick (nat_le (2 ^ 64 % u) (v * u % 2 ^ 64)) (Ok (indexed (v * u / 2 ^ 64) (used + 1))) (reduce_of (words_at inner outer (base + 1) (n - 1)) u (used + 1))) (sym is)
+      ∙ ap (λ (b : Bool). pick b (Ok (indexed (word * u / 2 ^ 64) (used + 1))) (reduce_of (words_at inner outer (base + 1) (n - 1)) u (used + 1))) (sym (test ∙ ap (leb (2 ^ 64 % u)) half))
 
-  pub reduce_accept : (high : ℕ) → t ≡ true → high ≡ word * u / 2 ^ 64 → Index high (used + 1) ≡ reduce_of (words_at inner outer base n) u used
-  reduce_accept high h e = sym (turn ∙ ap (λ (b : Bool). pick b (Index (word * u / 2 ^ 64) (used + 1)) (reduce_of (words_at inner outer (base + 1) (n - 1)) u (used + 1))) h ∙ ap (λ (i : ℕ). Index i (used + 1)) (sym e))
+  pub reduce_accept : (high : ℕ) → t ≡ true → high ≡ word * u / 2 ^ 64 → Ok (indexed high (used + 1)) ≡ reduce_of (words_at inner outer base n) u used
+  reduce_accept high h e = sym (turn ∙ ap (λ (b : Bool). pick b (Ok (indexed (word * u / 2 ^ 64) (used + 1))) (reduce_of (words_at inner outer (base + 1) (n - 1)) u (used + 1))) h ∙ ap (λ (i : ℕ). Ok (indexed i (used + 1))) (sym e))
 
   pub reduce_reject : t ≡ false → reduce_of (words_at inner outer (base + 1) (n - 1)) u (used + 1) ≡ reduce_of (words_at inner outer base n) u used
-  reduce_reject h = sym (turn ∙ ap (λ (b : Bool). pick b (Index (word * u / 2 ^ 64) (used + 1)) (reduce_of (words_at inner outer (base + 1) (n - 1)) u (used + 1))) h)
+  reduce_reject h = sym (turn ∙ ap (λ (b : Bool). pick b (Ok (indexed (word * u / 2 ^ 64) (used + 1))) (reduce_of (words_at inner outer (base + 1) (n - 1)) u (used + 1))) h)
 
 pub reduce_none : (inner outer base u used n : ℕ) → n ≡ 0 → all_rejected used ≡ reduce_of (words_at inner outer base n) u used
 unfolding reduce_of words_at
@@ -89,7 +84,7 @@ module _ (inner outer base u cap word low : ℕ) (t : Bool) (more : cap ≡ 0 �
     (is : word ≡ word_of inner outer base)
     (half : low ≡ word * u % 2 ^ 64)
     (test : t ≡ nat_le (2 ^ 64 % u) low) where
-  pub draw_first : (high : ℕ) → t ≡ true → high ≡ word * u / 2 ^ 64 → Index high 1 ≡ draw_of inner outer base u cap
+  pub draw_first : (high : ℕ) → t ≡ true → high ≡ word * u / 2 ^ 64 → Ok (indexed high 1) ≡ draw_of inner outer base u cap
   unfolding draw_of
   draw_first high h e = reduce_accept inner outer base u 0 cap word low t (omega arith) is half test high h e
 
@@ -125,7 +120,7 @@ module _ (inner outer base u cap used : ℕ) (r : Drawing inner outer base u cap
       (is : word ≡ word_of inner outer (base + used))
       (half : low ≡ word * u % 2 ^ 64)
       (test : t ≡ nat_le (2 ^ 64 % u) low) where
-    pub drawing_accept : (high : ℕ) → t ≡ true → high ≡ word * u / 2 ^ 64 → Index high (used + 1) ≡ draw_of inner outer base u cap
+    pub drawing_accept : (high : ℕ) → t ≡ true → high ≡ word * u / 2 ^ 64 → Ok (indexed high (used + 1)) ≡ draw_of inner outer base u cap
     drawing_accept high h e = reduce_accept inner outer (base + used) u used (cap - used) word low t (omega arith) is half test high h e ∙ r.rest
 
     pub drawing_more : t ≡ false → Drawing inner outer base u cap (used + 1)
@@ -139,8 +134,8 @@ module _ (inner outer base u cap used : ℕ) (r : Drawing inner outer base u cap
 
 -- an index is below u, took a word and no more than it may; where all are rejected, these are as many as it may
 unfoldable pub TriedIn : (u cap : ℕ) → Trial → Type 0
-TriedIn u cap (Index i n) = (i < u) × (0 < n) × (n ≤ cap)
-TriedIn u cap (Rejected n) = n ≡ cap
+TriedIn u cap (Ok drew) = (drew.index < u) × (0 < drew.words) × (drew.words ≤ cap)
+TriedIn u cap (Err n) = n ≡ cap
 
 either : (u cap : ℕ) (t : Bool) (a b : Trial) → TriedIn u cap a → TriedIn u cap b → TriedIn u cap (pick t a b)
 either u cap true a b ha hb = ha
@@ -165,58 +160,45 @@ pub record Drew (u cap index words : ℕ) : Type 0 where
   pub most : words ≤ cap
 
 -- the law that callers use: an index drawn is below u and took from 1 to cap words
-for_index : (d : Draw) (probe u cap : ℕ) (t : Trial) (i n : ℕ) → TriedIn u cap t → drawn_for d probe t ≡ drawn.Index i n → Drew u cap i n
+for_index : (d : Draw) (probe u cap : ℕ) (t : Trial) (i n : ℕ) → TriedIn u cap t → drawn_for d probe t ≡ Ok (indexed i n) → Drew u cap i n
 unfolding TriedIn
-for_index d probe u cap (Index j m) i n h e =
-    let a : j ≡ i = ap (λ x. index_of x) e in
-    let b : m ≡ n = ap (λ x. words_of x) e in
-    record { below = omega (arith, h.0); some = omega (arith, h.1); most = omega (arith, h.2) }
-  where
-    index_of : Drawn → ℕ
-    index_of (drawn.Index k l) = k
-    index_of (drawn.Refused r) = 0
+for_index d probe u cap (Ok drew) i n h e =
+    let a : drew ≡ indexed i n = cc in
+    record { below = rw a at h.0; some = rw a at h.1; most = rw a at h.2 }
+for_index d probe u cap (Err m) i n h e = let z : ◌≡◌ {A = ℕ} 0 1 = cc in absurd (omega arith)
 
-    words_of : Drawn → ℕ
-    words_of (drawn.Index k l) = l
-    words_of (drawn.Refused r) = 0
-for_index d probe u cap (Rejected m) i n h e = let z : ◌≡◌ {A = ℕ} 0 1 = cc in absurd (omega arith)
-
-pub keyed_draw_index : (key level probe u cap i n : ℕ) → 0 < u → keyed_draw_of key level probe u cap ≡ drawn.Index i n → Drew u cap i n
+pub keyed_draw_index : (key level probe u cap i n : ℕ) → 0 < u → keyed_draw_of key level probe u cap ≡ Ok (indexed i n) → Drew u cap i n
 unfolding keyed_draw_of
 keyed_draw_index key level probe u cap i n pos e = for_index _ _ u cap _ i n (draw_in _ _ _ u cap pos) e
 
-pub elastic_draw_index : (seed identity level probe u cap i n : ℕ) → 0 < u → elastic_draw_of seed identity level probe u cap ≡ drawn.Index i n → Drew u cap i n
+pub elastic_draw_index : (seed identity level probe u cap i n : ℕ) → 0 < u → elastic_draw_of seed identity level probe u cap ≡ Ok (indexed i n) → Drew u cap i n
 unfolding elastic_draw_of
 elastic_draw_index seed identity level probe u cap i n pos e = keyed_draw_index _ level probe u cap i n pos e
 
-pub domain_draw_index : (inner outer : ℕ) (domain : Domain) (probe u cap i n : ℕ) → 0 < u → domain_draw_of inner outer domain probe u cap ≡ drawn.Index i n → Drew u cap i n
+pub domain_draw_index : (inner outer : ℕ) (domain : Domain) (probe u cap i n : ℕ) → 0 < u → domain_draw_of inner outer domain probe u cap ≡ Ok (indexed i n) → Drew u cap i n
 unfolding domain_draw_of
 domain_draw_index inner outer domain probe u cap i n pos e = for_index _ _ u cap _ i n (draw_in _ _ _ u cap pos) e
 
-pub funnel_draw_index : (seed identity : ℕ) (domain : Domain) (probe u cap i n : ℕ) → 0 < u → funnel_draw_of seed identity domain probe u cap ≡ drawn.Index i n → Drew u cap i n
+pub funnel_draw_index : (seed identity : ℕ) (domain : Domain) (probe u cap i n : ℕ) → 0 < u → funnel_draw_of seed identity domain probe u cap ≡ Ok (indexed i n) → Drew u cap i n
 unfolding funnel_draw_of
 funnel_draw_index seed identity domain probe u cap i n pos e = domain_draw_index _ _ domain probe u cap i n pos e
 
 -- ---- "Say where the words ran out": a refused draw names itself, and all words that it may take
 
-for_refused : (d : Draw) (probe u cap : ℕ) (t : Trial) (r : RangeRefusal) → TriedIn u cap t → drawn_for d probe t ≡ drawn.Refused r → Names d probe cap r
+for_refused : (d : Draw) (probe u cap : ℕ) (t : Trial) (r : RangeRefusal) → TriedIn u cap t → drawn_for d probe t ≡ Err r → Names d probe cap r
 unfolding TriedIn
-for_refused d probe u cap (Index j m) r h e = let z : ◌≡◌ {A = ℕ} 0 1 = cc in absurd (omega arith)
-for_refused d probe u cap (Rejected m) r h e =
-    let told = ap (λ x. refusal_of x) e in
+for_refused d probe u cap (Ok drew) r h e = let z : ◌≡◌ {A = ℕ} 0 1 = cc in absurd (omega arith)
+for_refused d probe u cap (Err m) r h e =
+    let told : ◌≡◌ {A = RangeRefusal} (record { words = m; draw = d; probe = record { 0 = probe } }) r = cc in
     record { all = sym (ap (λ x. x.words) told) ∙ h; for_draw = sym (ap (λ x. x.draw) told); at_probe = sym (ap (λ x. x.probe.0) told) }
-  where
-    refusal_of : Drawn → RangeRefusal
-    refusal_of (drawn.Index k l) = r
-    refusal_of (drawn.Refused x) = x
 
-pub elastic_draw_refused : (seed identity level probe u cap : ℕ) (r : RangeRefusal) → 0 < u → elastic_draw_of seed identity level probe u cap ≡ drawn.Refused r
+pub elastic_draw_refused : (seed identity level probe u cap : ℕ) (r : RangeRefusal) → 0 < u → elastic_draw_of seed identity level probe u cap ≡ Err r
     → Names (draw.Elastic level) probe cap r
 unfolding elastic_draw_of keyed_draw_of
 elastic_draw_refused seed identity level probe u cap r pos e = for_refused _ _ u cap _ r (draw_in _ _ _ u cap pos) e
 
 pub funnel_draw_refused : (seed identity : ℕ) (domain : Domain) (probe u cap : ℕ) (r : RangeRefusal) → 0 < u
-    → funnel_draw_of seed identity domain probe u cap ≡ drawn.Refused r → Names (origin_of domain) probe cap r
+    → funnel_draw_of seed identity domain probe u cap ≡ Err r → Names (origin_of domain) probe cap r
 unfolding funnel_draw_of domain_draw_of
 funnel_draw_refused seed identity domain probe u cap r pos e = for_refused _ _ u cap _ r (draw_in _ _ _ u cap pos) e
 
@@ -233,8 +215,8 @@ unfolding funnel_draw_of
 funnel_core seed identity domain probe u cap inner outer i o = rw (i, o)
 
 -- an index that words gave is the index drawn
-pub domain_drawn : (inner outer : ℕ) (domain : Domain) (probe u cap i w : ℕ) → draw_of inner outer (funnel_counter_of domain probe 0) u cap ≡ Index i w
-    → domain_draw_of inner outer domain probe u cap ≡ drawn.Index i w
+pub domain_drawn : (inner outer : ℕ) (domain : Domain) (probe u cap i w : ℕ) → draw_of inner outer (funnel_counter_of domain probe 0) u cap ≡ Ok (indexed i w)
+    → domain_draw_of inner outer domain probe u cap ≡ Ok (indexed i w)
 unfolding domain_draw_of
 domain_drawn inner outer domain probe u cap i w e = ap (drawn_for (origin_of domain) probe) e
 
@@ -253,22 +235,22 @@ domain_told inner outer domain probe u cap base t o d b e g f =
 -- ---- the bare reductions, in turn
 
 module _ (seed identity level probe u cap : ℕ) where
-  pub elastic_upper : u ≡ 0 → reduced.Upper ≡ elastic_reduce_of seed identity level probe u cap
+  pub elastic_upper : u ≡ 0 → Err reduced.Upper ≡ elastic_reduce_of seed identity level probe u cap
   unfolding elastic_reduce_of
   elastic_upper e = sym (rw (eq-eqb u 0 e))
 
   module _ (nu : u ≡ 0 → ⊥) where
-    pub elastic_level : 32 ≤ level → reduced.Counter ≡ elastic_reduce_of seed identity level probe u cap
+    pub elastic_level : 32 ≤ level → Err reduced.Counter ≡ elastic_reduce_of seed identity level probe u cap
     unfolding elastic_reduce_of
     elastic_level h = sym (rw (ne_eqb u 0 nu, le-leb 32 level h))
 
     module _ (hl : level < 32) where
-      pub elastic_probe : 8192 ≤ probe → reduced.Counter ≡ elastic_reduce_of seed identity level probe u cap
+      pub elastic_probe : 8192 ≤ probe → Err reduced.Counter ≡ elastic_reduce_of seed identity level probe u cap
       unfolding elastic_reduce_of
       elastic_probe h = sym (rw (ne_eqb u 0 nu, lt-leb 32 level hl, le-leb 8192 probe h))
 
       module _ (hp : probe < 8192) where
-        pub elastic_cap : 8 < cap → reduced.Counter ≡ elastic_reduce_of seed identity level probe u cap
+        pub elastic_cap : 8 < cap → Err reduced.Counter ≡ elastic_reduce_of seed identity level probe u cap
         unfolding elastic_reduce_of
         elastic_cap h = sym (rw (ne_eqb u 0 nu, lt-leb 32 level hl, lt-leb 8192 probe hp, lt-ltb 8 cap h))
 
@@ -282,22 +264,22 @@ module _ (seed identity level probe u cap : ℕ) where
         elastic_answer h key d r k e f = f ∙ ap reduced_of (e ∙ elastic_core seed identity level probe u cap key k) ∙ elastic_drawn h
 
 module _ (seed identity : ℕ) (domain : Domain) (probe u cap : ℕ) where
-  pub funnel_upper : u ≡ 0 → reduced.Upper ≡ funnel_reduce_of seed identity domain probe u cap
+  pub funnel_upper : u ≡ 0 → Err reduced.Upper ≡ funnel_reduce_of seed identity domain probe u cap
   unfolding funnel_reduce_of
   funnel_upper e = sym (rw (eq-eqb u 0 e))
 
   module _ (nu : u ≡ 0 → ⊥) where
-    pub funnel_level : 2 ^ 46 ≤ level_of domain → reduced.Counter ≡ funnel_reduce_of seed identity domain probe u cap
+    pub funnel_level : 2 ^ 46 ≤ level_of domain → Err reduced.Counter ≡ funnel_reduce_of seed identity domain probe u cap
     unfolding funnel_reduce_of
     funnel_level h = sym (rw (ne_eqb u 0 nu, le-leb (2 ^ 46) (level_of domain) h))
 
     module _ (hl : level_of domain < 2 ^ 46) where
-      pub funnel_probe : 256 ≤ probe → reduced.Counter ≡ funnel_reduce_of seed identity domain probe u cap
+      pub funnel_probe : 256 ≤ probe → Err reduced.Counter ≡ funnel_reduce_of seed identity domain probe u cap
       unfolding funnel_reduce_of
       funnel_probe h = sym (rw (ne_eqb u 0 nu, lt-leb (2 ^ 46) (level_of domain) hl, le-leb 256 probe h))
 
       module _ (hp : probe < 256) where
-        pub funnel_cap : 256 < cap → reduced.Counter ≡ funnel_reduce_of seed identity domain probe u cap
+        pub funnel_cap : 256 < cap → Err reduced.Counter ≡ funnel_reduce_of seed identity domain probe u cap
         unfolding funnel_reduce_of
         funnel_cap h = sym (rw (ne_eqb u 0 nu, lt-leb (2 ^ 46) (level_of domain) hl, lt-leb 256 probe hp, lt-ltb 256 cap h))
 

@@ -1,5 +1,5 @@
 -- What each public call reports, in 01's words: its refusals by name and in their order, then its values. Assumes nothing.
-use Rattle.std.specs.Prelude.{◌≡◌, ℕ, ◌^◌, [], ◌∷◌, ◌==◌, nat_le, nat_lt, refl}
+use Rattle.std.specs.Prelude.{◌≡◌, ℕ, ◌^◌, [], ◌∷◌, ◌==◌, nat_le, nat_lt, refl, Option}
 use Rattle.refusal.specs.declared.Name.TheVariants as name
 use Rattle.refusal.specs.Table.{Report, answered, refused}
 use Rattle.words.specs.Pick.{pick}
@@ -8,7 +8,6 @@ use Rattle.probe.specs.Counter.{elastic_counter_of, elastic_packed_of, level_of,
 use Rattle.probe.specs.Word.{elastic_key_of, funnel_in_of, funnel_out_of, elastic_word_of, funnel_word_of, worded, elastic_worded_of, funnel_worded_of, word_report}
 use Rattle.probe.specs.Range.{elastic_draw_of, funnel_draw_of, reduced_of, elastic_reduce_of, funnel_reduce_of, reduced_report}
 use Rattle.probe.specs.declared.counter.Domain.{Domain}
-use Rattle.probe.specs.declared.counter.PackedCounter.{PackedCounter}
 
 pub elastic_counter_report : (level probe retry : ℕ) → packed_report (elastic_packed_of level probe retry)
     ≡ pick (nat_lt level 32)
@@ -36,7 +35,7 @@ unfolding elastic_worded_of elastic_packed_of
 elastic_word_report seed identity level probe retry =
     through f (nat_lt level 32) _ _ _ _ (through f (nat_lt probe 8192) _ _ _ _ (through f (nat_lt retry 8) _ _ _ _ refl refl) refl) refl
   where
-    f : PackedCounter → Report
+    f : Option ℕ → Report
     f p = word_report (worded (elastic_key_of seed identity) (elastic_key_of seed identity) p)
 
 pub funnel_word_report : (seed identity : ℕ) (domain : Domain) (probe retry : ℕ) → word_report (funnel_worded_of seed identity domain probe retry)
@@ -47,7 +46,7 @@ unfolding funnel_worded_of funnel_packed_of
 funnel_word_report seed identity domain probe retry =
     through f (nat_lt (level_of domain) (2 ^ 46)) _ _ _ _ (through f (nat_lt probe 256) _ _ _ _ (through f (nat_lt retry 256) _ _ _ _ refl refl) refl) refl
   where
-    f : PackedCounter → Report
+    f : Option ℕ → Report
     f p = word_report (worded (funnel_in_of seed identity) (funnel_out_of seed identity) p)
 
 -- "Reduction: 8, 9, 10"

@@ -1,5 +1,5 @@
 -- Laws of the reduction to a power of two. Assumes nothing.
-use Rattle.std.specs.Prelude.{◌≡◌, ℕ, zero, suc, ◌+◌, ◌-◌, ◌*◌, ◌/◌, ◌%◌, ◌^◌, ◌<◌, ◌≤◌, Bool, true, List, ◌∷◌, ◌==◌, ◌≢◌, refl}
+use Rattle.std.specs.Prelude.{◌≡◌, ℕ, zero, suc, ◌+◌, ◌-◌, ◌*◌, ◌/◌, ◌%◌, ◌^◌, ◌<◌, ◌≤◌, Bool, true, List, ◌∷◌, ◌==◌, ◌≢◌, refl, Ok}
 use Rattle.std.proofs.Common.{sym, ap, ◌∙◌, pow-suc, arith, pow-add, pow_pos, shr-shr, eqb-true, le-leb}
 use Rattle.std.proofs.Math.Nat.{div-eq_of_lt}
 use Rattle.std.specs.Int.Count.{count_trailing_zeros, under}
@@ -7,8 +7,7 @@ use Rattle.std.proofs.lemmas.Nat.{shl-shr}
 use Rattle.std.proofs.Math.Pow.{low}
 use Rattle.probe.specs.Word.{word_of}
 use Rattle.probe.specs.WordLaws.{word_below}
-use Rattle.probe.specs.Range.{words_at, reduce_of, draw_of}
-use Rattle.probe.specs.declared.range.Trial.TheVariants.{Index}
+use Rattle.probe.specs.Range.{indexed, words_at, reduce_of, draw_of}
 
 -- ---- 2^k values
 
@@ -27,24 +26,24 @@ high_shift k word h =
     ap (λ (m : ℕ). word * 2 ^ k / 2 ^ m) e ∙ sym (shr-shr (word * 2 ^ k) k (64 - k)) ∙ ap (λ (m : ℕ). m / 2 ^ (64 - k)) (shl-shr word k)
 
 -- For 2^k values no word is rejected and the index is the word divided by 2^(64-k), rounded down.
-pub reduce_power : (k word : ℕ) (words : List ℕ) (used : ℕ) → k ≤ 64 → reduce_of (word ∷ words) (2 ^ k) used ≡ Index (word / 2 ^ (64 - k)) (used + 1)
+pub reduce_power : (k word : ℕ) (words : List ℕ) (used : ℕ) → k ≤ 64 → reduce_of (word ∷ words) (2 ^ k) used ≡ Ok (indexed (word / 2 ^ (64 - k)) (used + 1))
 unfolding reduce_of
 reduce_power k word words used h = rw (le-leb (2 ^ 64 % 2 ^ k) (word * 2 ^ k % 2 ^ 64) (omega (arith, no_rest k h)), high_shift k word h)
 
 -- "One word is spent": the first, however many are allowed.
-pub draw_power : (inner outer base k cap : ℕ) → k ≤ 64 → 0 < cap → draw_of inner outer base (2 ^ k) cap ≡ Index (word_of inner outer base / 2 ^ (64 - k)) 1
+pub draw_power : (inner outer base k cap : ℕ) → k ≤ 64 → 0 < cap → draw_of inner outer base (2 ^ k) cap ≡ Ok (indexed (word_of inner outer base / 2 ^ (64 - k)) 1)
 unfolding draw_of words_at
 draw_power inner outer base k zero h some = absurd (omega arith)
 draw_power inner outer base k (suc cap) h some = reduce_power k (word_of inner outer base) (words_at inner outer (base + 1) cap) 0 h
 
 -- "Length 1 gives 0."
-pub draw_one : (inner outer base cap : ℕ) → 0 < cap → draw_of inner outer base 1 cap ≡ Index 0 1
+pub draw_one : (inner outer base cap : ℕ) → 0 < cap → draw_of inner outer base 1 cap ≡ Ok (indexed 0 1)
 draw_one inner outer base cap some =
-    draw_power inner outer base 0 cap (omega arith) some ∙ ap (λ (i : ℕ). Index i 1) (div-eq_of_lt (word_below inner outer base))
+    draw_power inner outer base 0 cap (omega arith) some ∙ ap (λ (i : ℕ). Ok (indexed i 1)) (div-eq_of_lt (word_below inner outer base))
 
 -- what a draw answers where u is 2 to its trailing zeros
 pub draw_shifted : (inner outer base u cap zeros word index : ℕ) (t : Bool) → zeros ≤ 64 → t ≡ (2 ^ zeros == u) → t ≡ true → (cap ≢ 0)
-    → word ≡ word_of inner outer base → index ≡ word / 2 ^ (64 - zeros) → Index index 1 ≡ draw_of inner outer base u cap
+    → word ≡ word_of inner outer base → index ≡ word / 2 ^ (64 - zeros) → Ok (indexed index 1) ≡ draw_of inner outer base u cap
 draw_shifted inner outer base u cap zeros word index t most test on some w i =
     let power : u ≡ 2 ^ zeros = sym (eqb-true (2 ^ zeros) u (sym test ∙ on)) in
     rw (i, w, power) (sym (draw_power inner outer base zeros cap most (omega arith)))

@@ -1,12 +1,11 @@
 -- No bias: for each index below u, the words that are accepted and give it are 2 ^ 64 / u consecutive ones, as many for one index as for another.
 -- Assumes nothing.
-use Rattle.std.specs.Prelude.{◌≡◌, ℕ, suc, ◌+◌, ◌-◌, ◌*◌, ◌/◌, ◌%◌, ◌^◌, ◌<◌, ◌≤◌, Bool, true, false, [], ◌∷◌, nat_le, refl}
+use Rattle.std.specs.Prelude.{◌≡◌, ℕ, suc, ◌+◌, ◌-◌, ◌*◌, ◌/◌, ◌%◌, ◌^◌, ◌<◌, ◌≤◌, Bool, true, false, [], ◌∷◌, nat_le, refl, Ok}
 use Rattle.std.proofs.Common.{sym, ◌∙◌, div-lt_iff_lt-mul, mod-lt, suc-mul, le_trans, le_of_eq, arith, le-leb, leb-true}
 use Rattle.std.proofs.Math.Path.{ap}
 use Rattle.std.proofs.Math.Nat.{add-mul-div_left, div-add-mod, lt_of_not-le, not-le_of_lt}
 use Rattle.words.specs.Pick.{pick}
-use Rattle.probe.specs.Range.{reduce_of, all_rejected}
-use Rattle.probe.specs.declared.range.Trial.TheVariants.{Index}
+use Rattle.probe.specs.Range.{indexed, Trial, reduce_of, all_rejected}
 
 -- a word that is accepted and gives the index i
 pub record Gives (u i w : ℕ) : Type 0 where
@@ -75,14 +74,14 @@ module _ (u i w : ℕ) (pos : 0 < u) (small : u ≤ 2 ^ 64) where
 
 -- ---- what a word gives is what the reduction makes of it
 
-pub gives_index : (u i w : ℕ) → Gives u i w → reduce_of (w ∷ []) u 0 ≡ Index i 1
+pub gives_index : (u i w : ℕ) → Gives u i w → reduce_of (w ∷ []) u 0 ≡ Ok (indexed i 1)
 unfolding reduce_of
 gives_index u i w g = rw (le-leb (2 ^ 64 % u) (w * u % 2 ^ 64) g.accepted, g.index)
 
-pub index_gives : (u i w : ℕ) → reduce_of (w ∷ []) u 0 ≡ Index i 1 → Gives u i w
+pub index_gives : (u i w : ℕ) → reduce_of (w ∷ []) u 0 ≡ Ok (indexed i 1) → Gives u i w
 unfolding reduce_of
 index_gives u i w e = go (nat_le (2 ^ 64 % u) (w * u % 2 ^ 64)) refl e
   where
-    go : (t : Bool) → nat_le (2 ^ 64 % u) (w * u % 2 ^ 64) ≡ t → pick t (Index (w * u / 2 ^ 64) 1) (all_rejected 1) ≡ Index i 1 → Gives u i w
-    go true h f = record { accepted = leb-true (2 ^ 64 % u) (w * u % 2 ^ 64) h; index = cc }
+    go : (t : Bool) → nat_le (2 ^ 64 % u) (w * u % 2 ^ 64) ≡ t → pick {A = Trial} t (Ok (indexed (w * u / 2 ^ 64) 1)) (all_rejected 1) ≡ Ok (indexed i 1) → Gives u i w
+    go true h f = record { accepted = leb-true (2 ^ 64 % u) (w * u % 2 ^ 64) h; index = let both : indexed (w * u / 2 ^ 64) 1 ≡ indexed i 1 = cc in ap (λ x. x.index) both }
     go false h f = let z : ◌≡◌ {A = ℕ} 0 1 = cc in absurd (omega arith)

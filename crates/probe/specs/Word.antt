@@ -1,14 +1,10 @@
 -- Keys of an identity under a seed, and the words of a key. Assumes nothing.
-use Rattle.std.specs.Prelude.{ℕ, ◌+◌, ◌%◌, ◌^◌, [], ◌∷◌}
+use Rattle.std.specs.Prelude.{ℕ, ◌+◌, ◌%◌, ◌^◌, [], ◌∷◌, Option, Some, None}
 use Rattle.refusal.specs.declared.Name.TheVariants as name
 use Rattle.refusal.specs.Table.{Report, answered, refused}
 use Rattle.probe.specs.Mix.{xor, mix64_of}
 use Rattle.probe.specs.Counter.{elastic_counter_of, elastic_packed_of, funnel_counter_of, funnel_packed_of}
 use Rattle.probe.specs.declared.counter.Domain.{Domain}
-use Rattle.probe.specs.declared.counter.PackedCounter.{PackedCounter}
-use Rattle.probe.specs.declared.counter.PackedCounter.TheVariants as packed
-use Rattle.probe.specs.declared.word.ProbeWord.{ProbeWord}
-use Rattle.probe.specs.declared.word.ProbeWord.TheVariants.{Word, Counter}
 
 -- "Elastic key = identity + seed + 9E3779B97F4A7C15, wrapped"
 unfoldable pub elastic_key_of : (seed identity : ℕ) → ℕ
@@ -39,21 +35,21 @@ abbrev pub funnel_word_of : (seed identity : ℕ) → Domain → (probe retry : 
 funnel_word_of seed identity domain probe retry =
     word_of (funnel_in_of seed identity) (funnel_out_of seed identity) (funnel_counter_of domain probe retry)
 
--- the word of a counter that was packed, or its refusal
-abbrev pub worded : (inner outer : ℕ) → PackedCounter → ProbeWord
-worded inner outer (packed.Packed counter) = Word (word_of inner outer counter)
-worded inner outer packed.Counter = Counter
+-- the word of a counter that was packed
+abbrev pub worded : (inner outer : ℕ) → Option ℕ → Option ℕ
+worded inner outer (Some counter) = Some (word_of inner outer counter)
+worded inner outer None = None
 
--- what a call for one word answers
-unfoldable pub elastic_worded_of : (seed identity level probe retry : ℕ) → ProbeWord
+-- what a call for one word answers: none where a field is beyond the packing
+unfoldable pub elastic_worded_of : (seed identity level probe retry : ℕ) → Option ℕ
 elastic_worded_of seed identity level probe retry =
     worded (elastic_key_of seed identity) (elastic_key_of seed identity) (elastic_packed_of level probe retry)
 
-unfoldable pub funnel_worded_of : (seed identity : ℕ) → Domain → (probe retry : ℕ) → ProbeWord
+unfoldable pub funnel_worded_of : (seed identity : ℕ) → Domain → (probe retry : ℕ) → Option ℕ
 funnel_worded_of seed identity domain probe retry =
     worded (funnel_in_of seed identity) (funnel_out_of seed identity) (funnel_packed_of domain probe retry)
 
--- what it reports
-abbrev pub word_report : ProbeWord → Report
-word_report (Word word) = answered (word ∷ [])
-word_report Counter = refused name.Counter []
+-- what it reports: COUNTER where there is none
+abbrev pub word_report : Option ℕ → Report
+word_report (Some word) = answered (word ∷ [])
+word_report None = refused name.Counter []

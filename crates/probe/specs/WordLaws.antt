@@ -1,15 +1,11 @@
 -- Laws of keys and words. Assumes nothing.
-use Rattle.std.specs.Prelude.{◌≡◌, ℕ, ◌^◌, ◌<◌, bit_xor}
+use Rattle.std.specs.Prelude.{◌≡◌, ℕ, ◌^◌, ◌<◌, bit_xor, Option, Some, None}
 use Rattle.std.proofs.Common.{sym, ap, ◌∙◌}
 use Rattle.probe.specs.Mix.{xor, mix64_of}
 use Rattle.probe.specs.MixLaws.{xor_below, xor_bits_lem}
 use Rattle.probe.specs.Counter.{elastic_packed_of, funnel_packed_of}
 use Rattle.probe.specs.Word.{elastic_key_of, funnel_in_of, funnel_out_of, word_of, worded, elastic_worded_of, funnel_worded_of}
 use Rattle.probe.specs.declared.counter.Domain.{Domain}
-use Rattle.probe.specs.declared.counter.PackedCounter.{PackedCounter}
-use Rattle.probe.specs.declared.counter.PackedCounter.TheVariants as packed
-use Rattle.probe.specs.declared.counter.PackedCounter.TheVariants.{Packed}
-use Rattle.probe.specs.declared.word.ProbeWord.TheVariants.{Word, Counter}
 
 -- a word has 64 bits, whatever the key and the counter
 pub word_below : (inner outer counter : ℕ) → word_of inner outer counter < 2 ^ 64
@@ -26,18 +22,18 @@ word_steps inner outer counter mixed hi ho hc hm e =
 
 -- ---- the answers
 
-pub worded_word : (inner outer counter word : ℕ) (p : PackedCounter) → p ≡ Packed counter → word ≡ word_of inner outer counter → Word word ≡ worded inner outer p
-worded_word inner outer counter word p e w = ap Word w ∙ sym (ap (worded inner outer) e)
+pub worded_word : (inner outer counter word : ℕ) (p : Option ℕ) → p ≡ Some counter → word ≡ word_of inner outer counter → Some word ≡ worded inner outer p
+worded_word inner outer counter word p e w = ap Some w ∙ sym (ap (worded inner outer) e)
 
-pub worded_beyond : (inner outer : ℕ) (p : PackedCounter) → p ≡ packed.Counter → Counter ≡ worded inner outer p
+pub worded_beyond : (inner outer : ℕ) (p : Option ℕ) → p ≡ None → None ≡ worded inner outer p
 worded_beyond inner outer p e = sym (ap (worded inner outer) e)
 
-pub elastic_worded : (seed identity level probe retry key : ℕ) (p : PackedCounter) → key ≡ elastic_key_of seed identity → p ≡ elastic_packed_of level probe retry
+pub elastic_worded : (seed identity level probe retry key : ℕ) (p : Option ℕ) → key ≡ elastic_key_of seed identity → p ≡ elastic_packed_of level probe retry
     → worded key key p ≡ elastic_worded_of seed identity level probe retry
 unfolding elastic_worded_of
 elastic_worded seed identity level probe retry key p k e = rw (k, e)
 
-pub funnel_worded : (seed identity : ℕ) (domain : Domain) (probe retry inner outer : ℕ) (p : PackedCounter)
+pub funnel_worded : (seed identity : ℕ) (domain : Domain) (probe retry inner outer : ℕ) (p : Option ℕ)
     → inner ≡ funnel_in_of seed identity → outer ≡ funnel_out_of seed identity → p ≡ funnel_packed_of domain probe retry
     → worded inner outer p ≡ funnel_worded_of seed identity domain probe retry
 unfolding funnel_worded_of

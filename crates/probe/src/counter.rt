@@ -27,27 +27,14 @@ pub enum Domain {
     FallbackB,
 }
 
-// A counter, or the refusal of a field beyond the packing.
-#[derive(Clone, Copy)]
-pub enum PackedCounter {
-    Packed(u64),
-    Counter,
-}
-
-// "counter = level<<16, probe<<3, retry; limits 32, 8192, 8"
-pub fn elastic_counter(level: u64, probe: LogicalProbe, retry: u64) -> PackedCounter
+// "counter = level<<16, probe<<3, retry; limits 32, 8192, 8": none for a field beyond the packing.
+pub fn elastic_counter(level: u64, probe: LogicalProbe, retry: u64) -> Option<u64>
     ensures { result ≡ elastic_packed_of level probe.0 retry }
 {
-    if ELASTIC_LEVELS <= level {
-        return PackedCounter::Counter;
+    if ELASTIC_LEVELS <= level || ELASTIC_PROBES <= probe.0 || ELASTIC_WORDS <= retry {
+        return None;
     }
-    if ELASTIC_PROBES <= probe.0 {
-        return PackedCounter::Counter;
-    }
-    if ELASTIC_WORDS <= retry {
-        return PackedCounter::Counter;
-    }
-    PackedCounter::Packed(elastic_base(level, probe) | retry)
+    Some(elastic_base(level, probe) | retry)
 }
 
 // The counter of the first word of an elastic probe; those of its retries follow it.
@@ -58,20 +45,14 @@ pub fn elastic_base(level: u64, probe: LogicalProbe) -> u64
     (level << 16) | (probe.0 << 3)
 }
 
-// "counter = tag<<62, level<<16, probe<<8, retry; limits 2^46, 256, 256"
-pub fn funnel_counter(domain: Domain, probe: LogicalProbe, retry: u64) -> PackedCounter
+// "counter = tag<<62, level<<16, probe<<8, retry; limits 2^46, 256, 256": none for a field beyond the packing.
+pub fn funnel_counter(domain: Domain, probe: LogicalProbe, retry: u64) -> Option<u64>
     ensures { result ≡ funnel_packed_of domain probe.0 retry }
 {
-    if !domain_fits(domain) {
-        return PackedCounter::Counter;
+    if !domain_fits(domain) || FUNNEL_PROBES <= probe.0 || FUNNEL_WORDS <= retry {
+        return None;
     }
-    if FUNNEL_PROBES <= probe.0 {
-        return PackedCounter::Counter;
-    }
-    if FUNNEL_WORDS <= retry {
-        return PackedCounter::Counter;
-    }
-    PackedCounter::Packed(funnel_base(domain, probe) | retry)
+    Some(funnel_base(domain, probe) | retry)
 }
 
 // The counter of the first word of a funnel probe; those of its retries follow it.

@@ -2,7 +2,8 @@
 ghost use Rattle.std.specs.Prelude.{◌≡◌, ◌+◌, ◌-◌, ◌*◌, ◌/◌, ◌%◌, ◌^◌, ◌<◌, ◌≤◌, ◌==◌, nat_le};
 ghost use Rattle.std.specs.Int.Count.{count_trailing_zeros};
 ghost use Rattle.probe.specs.Counter.{level_of};
-ghost use Rattle.probe.specs.Range.{draw_of, FirstIndex, origin_of, drawn_for, keyed_draw_of, domain_draw_of, reduced_of, elastic_reduce_of, funnel_reduce_of};
+ghost use Rattle.probe.specs.Range.{draw_of, FirstIndex, origin_of, drawn_for, keyed_draw_of, domain_draw_of, elastic_reduce_of, funnel_reduce_of};
+ghost use Rattle.probe.specs.declared.range.ReduceRefusal.TheVariants.{Range};
 
 use crate::counter::{
     Domain, ELASTIC_LEVELS, ELASTIC_PROBES, ELASTIC_WORDS, FUNNEL_PROBES, FUNNEL_WORDS,
@@ -14,27 +15,41 @@ use words::place::LogicalProbe;
 use words::power::two64_mod;
 use words::product::{multiply, multiply_high};
 
-// What words gave: an index and how many it took, or that so many were rejected and no more are allowed.
+// An index, and how many words were read for it.
 #[derive(Clone, Copy)]
-pub enum Trial {
-    Index { index: u64, words: u64 },
-    Rejected { words: u64 },
+pub struct Index {
+    pub index: u64,
+    pub words: u64,
 }
 
-// What a reduction gives where its range and counters are right: an index and the words it took, or that all were rejected, and where.
+// Why the bare reduction gives no index.
 #[derive(Clone, Copy)]
-pub enum Drawn {
-    Index { index: u64, words: u64 },
-    Refused(RangeRefusal),
-}
-
-// What the bare reduction answers.
-#[derive(Clone, Copy)]
-pub enum Reduced {
-    Index { index: u64, words: u64 },
+pub enum ReduceRefusal {
     Upper,
     Counter,
     Range(RangeRefusal),
+}
+
+impl From<RangeRefusal> for ReduceRefusal {
+    ghost from_gives = { λ refusal gives. gives ≡ Range refusal };
+
+    fn from(refusal: RangeRefusal) -> ReduceRefusal {
+        ReduceRefusal::Range(refusal)
+    }
+}
+
+// The draw of a domain.
+impl From<Domain> for Draw {
+    ghost from_gives = { λ domain gives. gives ≡ origin_of domain };
+
+    fn from(domain: Domain) -> Draw {
+        match domain {
+            Domain::Ordinary { level } => Draw::Ordinary { level },
+            Domain::Primary => Draw::Primary,
+            Domain::FallbackA => Draw::FallbackA,
+            Domain::FallbackB => Draw::FallbackB,
+        }
+    }
 }
 
 // An index below upper for an elastic probe, from at most cap words. The refusals are 8, 9 and 10 in that order.
@@ -45,22 +60,16 @@ pub fn elastic_reduce(
     probe: LogicalProbe,
     upper: u64,
     cap: u64,
-) -> Reduced
+) -> Result<Index, ReduceRefusal>
     ensures { result ≡ elastic_reduce_of seed identity level probe.0 upper cap }
 {
     if upper == 0 {
-        return Reduced::Upper;
+        return Err(ReduceRefusal::Upper);
     }
-    if ELASTIC_LEVELS <= level {
-        return Reduced::Counter;
+    if ELASTIC_LEVELS <= level || ELASTIC_PROBES <= probe.0 || ELASTIC_WORDS < cap {
+        return Err(ReduceRefusal::Counter);
     }
-    if ELASTIC_PROBES <= probe.0 {
-        return Reduced::Counter;
-    }
-    if ELASTIC_WORDS < cap {
-        return Reduced::Counter;
-    }
-    answer(elastic_draw(elastic_key(seed, identity), level, probe, upper, cap))
+    Ok(elastic_draw(elastic_key(seed, identity), level, probe, upper, cap)?)
 }
 
 // An index below upper for a funnel probe, from at most cap words. The refusals are 8, 9 and 10 in that order.
@@ -71,41 +80,32 @@ pub fn funnel_reduce(
     probe: LogicalProbe,
     upper: u64,
     cap: u64,
-) -> Reduced
+) -> Result<Index, ReduceRefusal>
     ensures { result ≡ funnel_reduce_of seed identity domain probe.0 upper cap }
 {
     if upper == 0 {
-        return Reduced::Upper;
+        return Err(ReduceRefusal::Upper);
     }
-    if !domain_fits(domain) {
-        return Reduced::Counter;
-    }
-    if FUNNEL_PROBES <= probe.0 {
-        return Reduced::Counter;
-    }
-    if FUNNEL_WORDS < cap {
-        return Reduced::Counter;
+    if !domain_fits(domain) || FUNNEL_PROBES <= probe.0 || FUNNEL_WORDS < cap {
+        return Err(ReduceRefusal::Counter);
     }
     let key = funnel_key(seed, identity);
-    answer(told(
-        draw(key.inner, key.outer, funnel_base(domain, probe), upper, cap),
-        origin(domain),
+    let base = funnel_base(domain, probe);
+    Ok(told(
+        draw(key.inner, key.outer, base, upper, cap),
+        Draw::from(domain),
         probe,
-    ))
-}
-
-// A draw's answer as the bare reduction gives it.
-fn answer(drawn: Drawn) -> Reduced
-    ensures { result ≡ reduced_of drawn }
-{
-    match drawn {
-        Drawn::Index { index, words } => Reduced::Index { index, words },
-        Drawn::Refused(refusal) => Reduced::Range(refusal),
-    }
+    )?)
 }
 
 // The core for the elastic table, by the identity's key.
-pub fn elastic_draw(key: u64, level: u64, probe: LogicalProbe, upper: u64, cap: u64) -> Drawn
+pub fn elastic_draw(
+    key: u64,
+    level: u64,
+    probe: LogicalProbe,
+    upper: u64,
+    cap: u64,
+) -> Result<Index, RangeRefusal>
     requires { (0 < upper) × (level < 32) × (probe.0 < 8192) × (cap ≤ 8) }
     ensures { result ≡ keyed_draw_of key level probe.0 upper cap }
 {
@@ -124,37 +124,22 @@ pub fn funnel_draw(
     probe: LogicalProbe,
     upper: u64,
     cap: u64,
-) -> Drawn
+) -> Result<Index, RangeRefusal>
     requires { (0 < upper) × (level_of domain < 2 ^ 46) × (probe.0 < 256) × (cap ≤ 256) }
     ensures { result ≡ domain_draw_of key.inner key.outer domain probe.0 upper cap }
 {
     told(
         draw_scaled(key.inner, key.outer, funnel_base(domain, probe), upper, cap),
-        origin(domain),
+        Draw::from(domain),
         probe,
     )
 }
 
 // What words gave, with the draw that they were for where they were rejected: the one place where RANGE is made.
-fn told(trial: Trial, draw: Draw, probe: LogicalProbe) -> Drawn
+fn told(trial: Result<Index, u64>, draw: Draw, probe: LogicalProbe) -> Result<Index, RangeRefusal>
     ensures { result ≡ drawn_for draw probe.0 trial }
 {
-    match trial {
-        Trial::Index { index, words } => Drawn::Index { index, words },
-        Trial::Rejected { words } => Drawn::Refused(RangeRefusal { words, draw, probe }),
-    }
-}
-
-// The draw of a domain.
-fn origin(domain: Domain) -> Draw
-    ensures { result ≡ origin_of domain }
-{
-    match domain {
-        Domain::Ordinary { level } => Draw::Ordinary { level },
-        Domain::Primary => Draw::Primary,
-        Domain::FallbackA => Draw::FallbackA,
-        Domain::FallbackB => Draw::FallbackB,
-    }
+    trial.map_err(|words| RangeRefusal { words, draw, probe })
 }
 
 // The index that the first word gives where it is accepted at once, else upper. For loops that leave the rest to `funnel_draw`.
@@ -171,17 +156,17 @@ pub fn first_index(key: FunnelKey, base: u64, upper: u64) -> u64
 
 // For a power of two no word is rejected, and the top bits of the first are the index: "count the trailing zeros of the length, shift, and
 // form no product".
-fn draw(inner: u64, outer: u64, base: u64, upper: u64, cap: u64) -> Trial
+fn draw(inner: u64, outer: u64, base: u64, upper: u64, cap: u64) -> Result<Index, u64>
     requires { (0 < upper) × (base + cap ≤ 2 ^ 64) }
     ensures { result ≡ draw_of inner outer base upper cap }
 {
     if cap == 0 {
-        return Trial::Rejected { words: 0 };
+        return Err(0);
     }
     if is_power(upper) {
         let word = keyed_word(inner, outer, base);
         let index = top_bits(word, u64::trailing_zeros(upper) as u64);
-        return Trial::Index { index, words: 1 };
+        return Ok(Index { index, words: 1 });
     }
     draw_scaled(inner, outer, base, upper, cap)
 }
@@ -203,22 +188,20 @@ fn top_bits(word: u64, bits: u64) -> u64
 }
 
 // Word after word, until one is accepted: the high half of its product with upper is the index.
-fn draw_scaled(inner: u64, outer: u64, base: u64, upper: u64, cap: u64) -> Trial
+fn draw_scaled(inner: u64, outer: u64, base: u64, upper: u64, cap: u64) -> Result<Index, u64>
     requires { (0 < upper) × (base + cap ≤ 2 ^ 64) }
     ensures { result ≡ draw_of inner outer base upper cap }
 {
-    let mut used = 0;
-    while used < cap {
+    for used in 0..cap {
         let word = keyed_word(inner, outer, base + used);
-        used += 1;
         if accepts(multiply(word, upper), upper) {
-            return Trial::Index {
+            return Ok(Index {
                 index: multiply_high(word, upper),
-                words: used,
-            };
+                words: used + 1,
+            });
         }
     }
-    Trial::Rejected { words: used }
+    Err(cap)
 }
 
 // Whether the low half of a word times u is at least 2^64 mod u. Most are at least u, and want no division.

@@ -2,7 +2,7 @@
 ghost use Rattle.std.specs.Prelude.{◌≡◌};
 ghost use Rattle.probe.specs.Word.{elastic_key_of, funnel_in_of, funnel_out_of, word_of, elastic_worded_of, funnel_worded_of};
 
-use crate::counter::{Domain, PackedCounter, elastic_counter, funnel_counter};
+use crate::counter::{Domain, elastic_counter, funnel_counter};
 use crate::mix::mix64;
 use words::place::LogicalProbe;
 
@@ -11,13 +11,6 @@ use words::place::LogicalProbe;
 pub struct FunnelKey {
     pub inner: u64,
     pub outer: u64,
-}
-
-// A word, or the refusal of a field beyond the packing.
-#[derive(Clone, Copy)]
-pub enum ProbeWord {
-    Word(u64),
-    Counter,
 }
 
 // "Elastic key = identity + seed + 9E3779B97F4A7C15, wrapped"
@@ -48,40 +41,32 @@ pub(crate) fn keyed_word(inner: u64, outer: u64, counter: u64) -> u64
     mix64(counter ^ inner) ^ outer
 }
 
-// One word of an elastic probe.
+// One word of an elastic probe; none for a field beyond the packing.
 pub fn elastic_word(
     seed: u64,
     identity: u64,
     level: u64,
     probe: LogicalProbe,
     retry: u64,
-) -> ProbeWord
+) -> Option<u64>
     ensures { result ≡ elastic_worded_of seed identity level probe.0 retry }
 {
-    match elastic_counter(level, probe, retry) {
-        PackedCounter::Packed(counter) => {
-            let key = elastic_key(seed, identity);
-            ProbeWord::Word(keyed_word(key, key, counter))
-        }
-        PackedCounter::Counter => ProbeWord::Counter,
-    }
+    let counter = elastic_counter(level, probe, retry)?;
+    let key = elastic_key(seed, identity);
+    Some(keyed_word(key, key, counter))
 }
 
-// One word of a funnel probe.
+// One word of a funnel probe; none for a field beyond the packing.
 pub fn funnel_word(
     seed: u64,
     identity: u64,
     domain: Domain,
     probe: LogicalProbe,
     retry: u64,
-) -> ProbeWord
+) -> Option<u64>
     ensures { result ≡ funnel_worded_of seed identity domain probe.0 retry }
 {
-    match funnel_counter(domain, probe, retry) {
-        PackedCounter::Packed(counter) => {
-            let key = funnel_key(seed, identity);
-            ProbeWord::Word(keyed_word(key.inner, key.outer, counter))
-        }
-        PackedCounter::Counter => ProbeWord::Counter,
-    }
+    let counter = funnel_counter(domain, probe, retry)?;
+    let key = funnel_key(seed, identity);
+    Some(keyed_word(key.inner, key.outer, counter))
 }
