@@ -1,7 +1,6 @@
 // Output gathered in a buffer, and written when that is full.
 use std::fmt;
 use std::fmt::Display;
-use words::product::Wide;
 
 // The descriptor of standard output.
 const STDOUT: i32 = 1;
@@ -46,6 +45,30 @@ impl Out {
     pub fn put(&mut self, bytes: &[u8]) {
         for b in bytes {
             self.byte(*b);
+        }
+    }
+
+    // The first `most` numbers of a row, each behind a space.
+    pub fn row(&mut self, most: u64, row: &[u64]) {
+        for x in row.iter().take(most as usize) {
+            write!(self, " {x}");
+        }
+    }
+
+    // The first `most` numbers of a row, joined by commas.
+    pub fn joined(&mut self, most: u64, row: &[u64]) {
+        for (i, x) in row.iter().take(most as usize).enumerate() {
+            if 0 < i {
+                self.byte(b',');
+            }
+            write!(self, "{x}");
+        }
+    }
+
+    // The first `most` pairs `a:b` of two rows, each behind a space.
+    pub fn pairs(&mut self, most: u64, left: &[u64], right: &[u64]) {
+        for (a, b) in left.iter().zip(right).take(most as usize) {
+            write!(self, " {a}:{b}");
         }
     }
 
