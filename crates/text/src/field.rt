@@ -3,6 +3,8 @@ ghost use Rattle.std.specs.Prelude.{◌≤◌};
 ghost use Rattle.std.specs.Iterator.{at_most};
 ghost use Rattle.text.specs.Fields.{fields_left};
 
+use words::product::Wide;
+
 // The fields of a line that are left, between single spaces; none are left after the last one.
 #[derive(Clone, Copy)]
 pub struct Fields<'a> {
@@ -87,7 +89,15 @@ pub fn decimal(field: &[u8]) -> Option<u64> {
 }
 
 // A number of two words, decimal or hexadecimal.
-pub fn wide_number(field: &[u8]) -> Option<u128> {
+pub fn wide_number(field: &[u8]) -> Option<Wide> {
+    let x = whole_number(field)?;
+    Some(Wide {
+        hi: (x >> 64) as u64,
+        lo: (x & u128::from(u64::MAX)) as u64,
+    })
+}
+
+fn whole_number(field: &[u8]) -> Option<u128> {
     match field.strip_prefix(b"0x") {
         Some(hexadecimal) => digits(hexadecimal, 16),
         None => digits(field, 10),
@@ -96,5 +106,5 @@ pub fn wide_number(field: &[u8]) -> Option<u128> {
 
 // A number of one word, decimal or hexadecimal.
 pub fn number(field: &[u8]) -> Option<u64> {
-    u64::try_from(wide_number(field)?).ok()
+    u64::try_from(whole_number(field)?).ok()
 }
