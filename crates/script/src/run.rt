@@ -102,3 +102,12 @@ pub fn put_end(is_bulk: bool, count: u64, sums: &Sums, out: &mut Out) {
         write!(out, "END {count}");
     }
 }
+
+// Puts an identity into a slot.
+pub fn occupy(slot: u64, identity: u64, words: &mut [u64], flags: &mut [u8]) {
+    let slot = slot as usize;
+    if slot < words.len() && slot < flags.len() {
+        words[slot] = identity;
+        flags[slot] = 1;
+    }
+}
