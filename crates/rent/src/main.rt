@@ -15,7 +15,7 @@
 ghost use Rattle.std.specs.Prelude.{◌≤◌};
 
 use geometry::config::LARGEST_N;
-use geometry_smallest::smallest::{SmallestFunnel, smallest_funnel};
+use geometry_smallest::smallest::{SmallestRefusal, smallest_funnel};
 use refusal::Name;
 use text::field::Fields;
 use text::line::{Answer, answer_lines};
@@ -50,19 +50,23 @@ impl Answer for Rents {
     }
 }
 
-// What a line asks: two numbers, or four.
 fn parse(line: &[u8]) -> Option<Query> {
-    let fields = Fields::new(line);
-    let two = fields
-        .just_numbers()
-        .map(|[count, e]| [count, e, FIRST, LARGEST_N]);
-    let [count, e, first, last] = two.or_else(|| fields.just_numbers())?;
+    let [count, e, first, last] = asked(Fields::new(line))?;
     Some(Query {
         count,
         e: u32::try_from(e).ok()?,
         first,
         last,
     })
+}
+
+// What a line asks: two numbers, or four.
+fn asked(fields: Fields) -> Option<[u64; 4]> {
+    let Some(two) = fields.just_numbers::<2>() else {
+        return fields.just_numbers();
+    };
+    let [count, e] = two;
+    Some([count, e, FIRST, LARGEST_N])
 }
 
 // Every answer begins with the question again.
@@ -75,9 +79,9 @@ fn answer_query(query: Query, out: &mut Out) {
     } = query;
     write!(out, "{count} {e} {first} {last}");
     match smallest_funnel(count, e, first, last, &mut [0; 118]) {
-        SmallestFunnel::Found(n, plan) => put_found(count, n, plan.maximum, out),
-        SmallestFunnel::Refused(gate) => put_refusal(refusal::gate_name(gate), out),
-        SmallestFunnel::Nothing => put_refusal(Name::None, out),
+        Ok(found) => put_found(count, found.n, found.plan.maximum, out),
+        Err(SmallestRefusal::Refused(gate)) => put_refusal(refusal::gate_name(gate), out),
+        Err(SmallestRefusal::Nothing) => put_refusal(Name::None, out),
     }
 }
 

@@ -1,7 +1,7 @@
 // SN and MS: the smallest funnel table, and the lower bound on layouts.
 use crate::layouts::FunnelLayout;
-use geometry_smallest::minimum::{MinimumSlots, funnel_minimum_slots};
-use geometry_smallest::smallest::{SmallestFunnel, smallest_funnel};
+use geometry_smallest::minimum::funnel_minimum_slots;
+use geometry_smallest::smallest::{SmallestRefusal, smallest_funnel};
 use refusal::Name;
 use script::print::{Numbers, Refusal, put_answer};
 use std::fmt;
@@ -34,12 +34,15 @@ fn smallest_of(fields: Fields) -> Result<Smallest, Refusal> {
     };
     let mut counts = [0; 118];
     match smallest_funnel(count, e, first, last, &mut counts) {
-        SmallestFunnel::Found(n, plan) => Ok(Smallest {
-            n,
-            layout: FunnelLayout { plan, counts },
+        Ok(found) => Ok(Smallest {
+            n: found.n,
+            layout: FunnelLayout {
+                plan: found.plan,
+                counts,
+            },
         }),
-        SmallestFunnel::Refused(gate) => Err(Refusal::from(gate)),
-        SmallestFunnel::Nothing => Err(Refusal::Named(Name::None)),
+        Err(SmallestRefusal::Refused(gate)) => Err(Refusal::from(gate)),
+        Err(SmallestRefusal::Nothing) => Err(Refusal::Named(Name::None)),
     }
 }
 
@@ -48,8 +51,7 @@ pub fn minimum(e: u64, from: u64) -> Result<Numbers, Refusal> {
     let Ok(e) = u32::try_from(e) else {
         return Err(Refusal::Unknown);
     };
-    match funnel_minimum_slots(e, from) {
-        MinimumSlots::Slots(n) => Ok(Numbers::from(n)),
-        MinimumSlots::Nothing => Err(Refusal::Named(Name::None)),
-    }
+    funnel_minimum_slots(e, from)
+        .map(Numbers::from)
+        .ok_or(Refusal::Named(Name::None))
 }

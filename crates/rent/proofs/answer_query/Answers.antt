@@ -3,4 +3,4 @@ use Rattle.geometry_smallest.specs.SmallestLaws.{found_fits}
 use Rattle.rent.proofs.answer_query.Goals as goal
 
 pub put_found-requires : goal.put_found-requires
-put_found-requires c = found_fits _ _ _ _ _ _ _ _ _ c.in-Found.is c.smallest_funnel.ensures
+put_found-requires c = found_fits _ _ _ _ _ _ _ _ c.in-Ok.is c.smallest_funnel.ensures
