@@ -2,9 +2,8 @@
 ghost use Rattle.std.specs.Prelude.{◌≡◌, ◌≤◌, length};
 ghost use Rattle.funnel.specs.Dirty.{dirty_at};
 ghost use Rattle.audit.specs.Greedy.{first_from, unplaced};
-ghost use Rattle.lent.specs.Lent.{words_in};
 
-use lent::store::word;
+use lent::store::Stored;
 
 // The smallest slot with a property, where there is one.
 #[derive(Clone, Copy)]
@@ -14,9 +13,9 @@ pub enum First {
 }
 
 // DIRTY: the smallest of n slots whose flag is above 1, or that is vacant with a nonzero word.
-pub fn first_dirty(words: &[u64], flags: &[u8], n: u64, lent: &[u8], bytes: bool) -> First
-    requires { (n ≤ length (words_in bytes words.now lent.now)) × (n ≤ length flags.now) }
-    ensures { result ≡ first_from (dirty_at (words_in bytes words.now lent.now) flags.now) 0 n }
+pub fn first_dirty<E: Stored>(words: &[E], flags: &[u8], n: u64) -> First
+    requires { (n ≤ length (E.words words.now)) × (n ≤ length flags.now) }
+    ensures { result ≡ first_from (dirty_at (E.words words.now) flags.now) 0 n }
 {
     let mut slot = 0;
     while slot < n {
@@ -25,7 +24,7 @@ pub fn first_dirty(words: &[u64], flags: &[u8], n: u64, lent: &[u8], bytes: bool
         let s = at as usize;
         let flag = flags[s];
         if flag == 0 {
-            if word(bytes, words, lent, at) != 0 {
+            if E::word(words, at) != 0 {
                 return First::At { slot: at };
             }
         } else {

@@ -6,35 +6,32 @@ ghost use Rattle.audit.specs.Special.{live};
 ghost use Rattle.audit.specs.Verdicts.{Judged, Offered};
 ghost use Rattle.funnel.specs.Path.{primary_start};
 ghost use Rattle.funnel.specs.Valid.{Valid};
-ghost use Rattle.lent.specs.Lent.{words_in};
 ghost use Rattle.waiting.specs.Links.{space};
 
 use funnel::table::{FunnelTable, Search};
 use funnel_search::search::find_ordinary;
-use lent::store::word;
+use lent::store::Stored;
 use queue::keep::add;
 use waiting::chain::clear;
 
 // Gives a verdict on each special slot, in its own mark: 1 for a slot that is live.
-pub fn judge(
+pub fn judge<E: Stored>(
     table: FunnelTable,
     counts: &[u64; 118],
-    words: &[u64],
+    words: &[E],
     flags: &[u8],
     marks: &mut [u8],
     start: u64,
-    lent: &[u8],
-    bytes: bool,
 )
-    requires { Valid table counts.now (words_in bytes words.now lent.now) marks.old × (length flags.now ≡ table.n) × (start ≡ primary_start table.plan counts.now) }
-    ensures { Judged (live table counts.now (words_in bytes words.now lent.now) flags.now marks.old) start table.n marks.old marks.new }
+    requires { Valid table counts.now (E.words words.now) marks.old × (length flags.now ≡ table.n) × (start ≡ primary_start table.plan counts.now) }
+    ensures { Judged (live table counts.now (E.words words.now) flags.now marks.old) start table.n marks.old marks.new }
 {
     let n = table.n;
     let mut slot = start;
     while slot < n {
         let at = slot;
         slot += 1;
-        if is_live(table, counts, words, flags, marks, at, lent, bytes) {
+        if is_live(table, counts, words, flags, marks, at) {
             marks[at as usize] = 1;
         } else {
             marks[at as usize] = 0;
@@ -43,25 +40,23 @@ pub fn judge(
 }
 
 // Whether a slot is occupied, and its identity's search goes on past the ordinary slots.
-fn is_live(
+fn is_live<E: Stored>(
     table: FunnelTable,
     counts: &[u64; 118],
-    words: &[u64],
+    words: &[E],
     flags: &[u8],
     marks: &[u8],
     slot: u64,
-    lent: &[u8],
-    bytes: bool,
 ) -> bool
-    requires { Valid table counts.now (words_in bytes words.now lent.now) marks.now × (length flags.now ≡ table.n) × (slot < table.n) }
-    ensures { result ≡ live table counts.now (words_in bytes words.now lent.now) flags.now marks.now slot }
+    requires { Valid table counts.now (E.words words.now) marks.now × (length flags.now ≡ table.n) × (slot < table.n) }
+    ensures { result ≡ live table counts.now (E.words words.now) flags.now marks.now slot }
 {
     let s = slot as usize;
     if flags[s] == 0 {
         return false;
     }
-    let identity = word(bytes, words, lent, slot);
-    match find_ordinary(table, counts, words, marks, identity, lent, bytes) {
+    let identity = E::word(words, slot);
+    match find_ordinary(table, counts, words, marks, identity) {
         Search::Vacant {
             probes: _,
             place: _,

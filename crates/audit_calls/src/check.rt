@@ -2,13 +2,13 @@
 ghost use Rattle.std.specs.Prelude.{◌≡◌, length};
 ghost use Rattle.audit_calls.specs.Check.{ended, take_all, audit_of, check_gate, check_of};
 ghost use Rattle.funnel.specs.Valid.{Valid};
-ghost use Rattle.lent.specs.Lent.{words_in};
 
 use audit::slots::{First, first_dirty, first_unplaced};
 use audit_pass::pass::take_members;
 use funnel::table::FunnelTable;
 use funnel_calls::calls::table_gate;
 use geometry::config::Gated;
+use lent::store::Stored;
 use refusal::Gate;
 
 // What the check answers: every member placed; stuck, with the number placed and the smallest occupied slot that is not;
@@ -79,45 +79,39 @@ pub fn check_gate(
 }
 
 // The check of a state that passed.
-pub fn audit(
+pub fn audit<E: Stored>(
     table: FunnelTable,
     counts: &[u64; 118],
-    words: &[u64],
+    words: &[E],
     flags: &[u8],
     marks: &mut [u8],
-    order: &mut [u64],
-    lent: &[u8],
-    lent_order: &mut [u8],
-    bytes: bool,
+    order: &mut [E],
 ) -> Checked
-    requires { Valid table counts.now (words_in bytes words.now lent.now) flags.now × (length marks.old ≡ table.n) × (length (words_in bytes order.old lent_order.old) ≡ table.n) }
-    ensures { ended result marks.new (words_in bytes order.new lent_order.new) ≡ audit_of table counts.now (words_in bytes words.now lent.now) flags.now marks.old (words_in bytes order.old lent_order.old) }
+    requires { Valid table counts.now (E.words words.now) flags.now × (length marks.old ≡ table.n) × (length (E.words order.old) ≡ table.n) }
+    ensures { ended result marks.new (E.words order.new) ≡ audit_of table counts.now (E.words words.now) flags.now marks.old (E.words order.old) }
 {
-    match first_dirty(words, flags, table.n, lent, bytes) {
+    match first_dirty(words, flags, table.n) {
         First::At { slot } => Checked::Dirty { slot },
         First::Nothing => place_members(
-            table, counts, words, flags, marks, order, lent, lent_order, bytes,
+            table, counts, words, flags, marks, order,
         ),
     }
 }
 
 // The check of an image that has no dirty slot.
-fn place_members(
+fn place_members<E: Stored>(
     table: FunnelTable,
     counts: &[u64; 118],
-    words: &[u64],
+    words: &[E],
     flags: &[u8],
     marks: &mut [u8],
-    order: &mut [u64],
-    lent: &[u8],
-    lent_order: &mut [u8],
-    bytes: bool,
+    order: &mut [E],
 ) -> Checked
-    requires { Valid table counts.now (words_in bytes words.now lent.now) flags.now × (length marks.old ≡ table.n) × (length (words_in bytes order.old lent_order.old) ≡ table.n) }
-    ensures { ended result marks.new (words_in bytes order.new lent_order.new) ≡ take_all table counts.now (words_in bytes words.now lent.now) flags.now (words_in bytes order.old lent_order.old) }
+    requires { Valid table counts.now (E.words words.now) flags.now × (length marks.old ≡ table.n) × (length (E.words order.old) ≡ table.n) }
+    ensures { ended result marks.new (E.words order.new) ≡ take_all table counts.now (E.words words.now) flags.now (E.words order.old) }
 {
     let placed = take_members(
-        table, counts, words, flags, marks, order, lent, lent_order, bytes,
+        table, counts, words, flags, marks, order,
     );
     match first_unplaced(flags, marks, table.n) {
         First::At { slot } => Checked::Disorder { placed, slot },

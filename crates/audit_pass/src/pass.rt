@@ -7,65 +7,58 @@ ghost use Rattle.audit.specs.Marked.{Listed};
 ghost use Rattle.audit.specs.Verdicts.{Early};
 ghost use Rattle.funnel.specs.Path.{primary_start};
 ghost use Rattle.funnel.specs.Valid.{Valid};
-ghost use Rattle.lent.specs.Lent.{words_in};
 
 use audit::restore::restore;
 use audit::verdict::{judge, offer};
 use audit_ready::ready::is_ready;
 use audit_special::special::take_live;
 use funnel::table::FunnelTable;
-use lent::store::put_word;
+use lent::store::Stored;
 use words::clear::clear_bytes;
 
 // Takes from empty marks what can be taken, in 01's order: how many.
-pub fn take_members(
+pub fn take_members<E: Stored>(
     table: FunnelTable,
     counts: &[u64; 118],
-    words: &[u64],
+    words: &[E],
     flags: &[u8],
     marks: &mut [u8],
-    order: &mut [u64],
-    lent: &[u8],
-    lent_order: &mut [u8],
-    bytes: bool,
+    order: &mut [E],
 ) -> u64
-    requires { Valid table counts.now (words_in bytes words.now lent.now) flags.now × (length marks.old ≡ table.n) × (length (words_in bytes order.old lent_order.old) ≡ table.n) }
-    ensures { taken marks.new (words_in bytes order.new lent_order.new) result ≡ greedy_of table counts.now (words_in bytes words.now lent.now) flags.now table.n table.n (replicate table.n 0) (words_in bytes order.old lent_order.old) 0 }
+    requires { Valid table counts.now (E.words words.now) flags.now × (length marks.old ≡ table.n) × (length (E.words order.old) ≡ table.n) }
+    ensures { taken marks.new (E.words order.new) result ≡ greedy_of table counts.now (E.words words.now) flags.now table.n table.n (replicate table.n 0) (E.words order.old) 0 }
 {
     clear_bytes(marks);
     let start = table.n - table.plan.special_len;
     let ordinary = take_ordinary(
-        table, counts, words, flags, marks, order, start, lent, lent_order, bytes,
+        table, counts, words, flags, marks, order, start,
     );
     take_special(
-        table, counts, words, flags, marks, order, start, ordinary, lent, lent_order, bytes,
+        table, counts, words, flags, marks, order, start, ordinary,
     )
 }
 
 // Takes what can be taken of the slots below the special part: how many.
-fn take_ordinary(
+fn take_ordinary<E: Stored>(
     table: FunnelTable,
     counts: &[u64; 118],
-    words: &[u64],
+    words: &[E],
     flags: &[u8],
     marks: &mut [u8],
-    order: &mut [u64],
+    order: &mut [E],
     start: u64,
-    lent: &[u8],
-    lent_order: &mut [u8],
-    bytes: bool,
 ) -> u64
-    requires { Valid table counts.now (words_in bytes words.now lent.now) marks.old × (length flags.now ≡ table.n) × (length (words_in bytes order.old lent_order.old) ≡ table.n) × (start ≡ primary_start table.plan counts.now) × (start ≤ table.n) × Early 0 marks.old }
-    ensures { Early start marks.new × Going (greedy_of table counts.now (words_in bytes words.now lent.now) flags.now table.n table.n marks.old (words_in bytes order.old lent_order.old) 0) table counts.now (words_in bytes words.now lent.now) flags.now marks.new (words_in bytes order.new lent_order.new) result start }
+    requires { Valid table counts.now (E.words words.now) marks.old × (length flags.now ≡ table.n) × (length (E.words order.old) ≡ table.n) × (start ≡ primary_start table.plan counts.now) × (start ≤ table.n) × Early 0 marks.old }
+    ensures { Early start marks.new × Going (greedy_of table counts.now (E.words words.now) flags.now table.n table.n marks.old (E.words order.old) 0) table counts.now (E.words words.now) flags.now marks.new (E.words order.new) result start }
 {
     let mut placed = 0;
     let mut slot = 0;
     while slot < start {
         let at = slot;
         slot += 1;
-        if is_ready(table, counts, words, flags, marks, placed, at, lent, bytes) {
+        if is_ready(table, counts, words, flags, marks, placed, at) {
             marks[at as usize] = 1;
-            put_word(bytes, order, lent_order, placed, at);
+            E::put(order, placed, at);
             placed += 1;
         }
     }
@@ -75,27 +68,24 @@ fn take_ordinary(
 // Takes what can be taken of the special part, which starts at `start`: how many are placed then. The ordinary part of each path is
 // read once, for the verdicts; from there on the ordinary marks are room for the turns, and in the end all marks are made again from
 // the order.
-fn take_special(
+fn take_special<E: Stored>(
     table: FunnelTable,
     counts: &[u64; 118],
-    words: &[u64],
+    words: &[E],
     flags: &[u8],
     marks: &mut [u8],
-    order: &mut [u64],
+    order: &mut [E],
     start: u64,
     before: u64,
-    lent: &[u8],
-    lent_order: &mut [u8],
-    bytes: bool,
 ) -> u64
-    requires { Valid table counts.now (words_in bytes words.now lent.now) marks.old × (length flags.now ≡ table.n) × (start ≡ primary_start table.plan counts.now) × (start ≤ table.n) × Early start marks.old × Going (greedy_of table counts.now (words_in bytes words.now lent.now) flags.now table.n (table.n - before) marks.old (words_in bytes order.old lent_order.old) before) table counts.now (words_in bytes words.now lent.now) flags.now marks.old (words_in bytes order.old lent_order.old) before start × Listed table.n (greedy_of table counts.now (words_in bytes words.now lent.now) flags.now table.n (table.n - before) marks.old (words_in bytes order.old lent_order.old) before) }
-    ensures { taken marks.new (words_in bytes order.new lent_order.new) result ≡ greedy_of table counts.now (words_in bytes words.now lent.now) flags.now table.n (table.n - before) marks.old (words_in bytes order.old lent_order.old) before }
+    requires { Valid table counts.now (E.words words.now) marks.old × (length flags.now ≡ table.n) × (start ≡ primary_start table.plan counts.now) × (start ≤ table.n) × Early start marks.old × Going (greedy_of table counts.now (E.words words.now) flags.now table.n (table.n - before) marks.old (E.words order.old) before) table counts.now (E.words words.now) flags.now marks.old (E.words order.old) before start × Listed table.n (greedy_of table counts.now (E.words words.now) flags.now table.n (table.n - before) marks.old (E.words order.old) before) }
+    ensures { taken marks.new (E.words order.new) result ≡ greedy_of table counts.now (E.words words.now) flags.now table.n (table.n - before) marks.old (E.words order.old) before }
 {
-    judge(table, counts, words, flags, marks, start, lent, bytes);
+    judge(table, counts, words, flags, marks, start);
     offer(marks, start, table.plan.special_len);
     let placed = take_live(
-        table, counts, words, flags, marks, order, start, before, lent, lent_order, bytes,
+        table, counts, words, flags, marks, order, start, before,
     );
-    restore(marks, order, placed, lent_order, bytes);
+    restore(marks, order, placed);
     placed
 }

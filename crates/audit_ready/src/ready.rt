@@ -5,28 +5,25 @@ ghost use Rattle.audit.specs.Greedy.{ready, vacant_at};
 ghost use Rattle.funnel.specs.Search.{find_of};
 ghost use Rattle.funnel.specs.Stop.{StopsAt};
 ghost use Rattle.funnel.specs.Valid.{Valid};
-ghost use Rattle.lent.specs.Lent.{words_in};
 
 use funnel::scan::pass;
 use funnel::table::{FunnelTable, Search, Stop, slot_of};
 use funnel_search::search::{find, first_bucket};
-use lent::store::word;
+use lent::store::Stored;
 use probe::word::funnel_key;
 
 // Whether a slot is ready, with some placed.
-pub fn is_ready(
+pub fn is_ready<E: Stored>(
     table: FunnelTable,
     counts: &[u64; 118],
-    words: &[u64],
+    words: &[E],
     flags: &[u8],
     marks: &[u8],
     placed: u64,
     slot: u64,
-    lent: &[u8],
-    bytes: bool,
 ) -> bool
-    requires { Valid table counts.now (words_in bytes words.now lent.now) marks.now × (length flags.now ≡ table.n) × (slot < table.n) }
-    ensures { result ≡ ready table counts.now (words_in bytes words.now lent.now) flags.now marks.now placed slot }
+    requires { Valid table counts.now (E.words words.now) marks.now × (length flags.now ≡ table.n) × (slot < table.n) }
+    ensures { result ≡ ready table counts.now (E.words words.now) flags.now marks.now placed slot }
 {
     let s = slot as usize;
     if flags[s] == 0 {
@@ -38,27 +35,25 @@ pub fn is_ready(
     if table.plan.maximum <= placed {
         return false;
     }
-    let identity = word(bytes, words, lent, slot);
-    match pass_placed(table, counts, words, marks, identity, lent, bytes) {
+    let identity = E::word(words, slot);
+    match pass_placed(table, counts, words, marks, identity) {
         Stop::Vacant { slot: found } => found == slot,
         Stop::Hit { slot: _ } => false,
-        Stop::Nowhere => ends_at(table, counts, words, marks, identity, slot, lent, bytes),
+        Stop::Nowhere => ends_at(table, counts, words, marks, identity, slot),
     }
 }
 
 // The slot that the levels settle a search of the placed part with. This is the walk of `funnel_search::search::pass_levels` once more, since
 // a walk is compiled into its caller only where it has no other, and both loops gain by that.
-fn pass_placed(
+fn pass_placed<E: Stored>(
     table: FunnelTable,
     counts: &[u64; 118],
-    words: &[u64],
+    words: &[E],
     marks: &[u8],
     identity: u64,
-    lent: &[u8],
-    bytes: bool,
 ) -> Stop
-    requires { Valid table counts.now (words_in bytes words.now lent.now) marks.now }
-    ensures { StopsAt result (find_of table counts.now (words_in bytes words.now lent.now) marks.now identity) (Unit {0}) }
+    requires { Valid table counts.now (E.words words.now) marks.now }
+    ensures { StopsAt result (find_of table counts.now (E.words words.now) marks.now identity) (Unit {0}) }
 {
     let key = funnel_key(table.seed, identity);
     let alpha = table.plan.alpha;
@@ -73,7 +68,7 @@ fn pass_placed(
         }
         let ahead = first_bucket(key, counts, table.plan.alpha, level + 1);
         let from = start + bucket * beta;
-        let stop = pass(words, marks, identity, from, beta, lent, bytes);
+        let stop = pass(words, marks, identity, from, beta);
         let Stop::Nowhere = stop else {
             return stop;
         };
@@ -85,20 +80,18 @@ fn pass_placed(
 }
 
 // Whether the search of the placed part ends vacant at a slot. For the few identities that first words in the levels do not settle.
-fn ends_at(
+fn ends_at<E: Stored>(
     table: FunnelTable,
     counts: &[u64; 118],
-    words: &[u64],
+    words: &[E],
     marks: &[u8],
     identity: u64,
     slot: u64,
-    lent: &[u8],
-    bytes: bool,
 ) -> bool
-    requires { Valid table counts.now (words_in bytes words.now lent.now) marks.now }
-    ensures { result ≡ vacant_at slot (find_of table counts.now (words_in bytes words.now lent.now) marks.now identity) }
+    requires { Valid table counts.now (E.words words.now) marks.now }
+    ensures { result ≡ vacant_at slot (find_of table counts.now (E.words words.now) marks.now identity) }
 {
-    match find(table, counts, words, marks, identity, lent, bytes) {
+    match find(table, counts, words, marks, identity) {
         Search::Vacant { probes: _, place } => slot_of(place) == slot,
         Search::Hit {
             probes: _,

@@ -7,13 +7,12 @@ ghost use Rattle.audit.specs.Waits.{special_end, vacancy_of, Begun, Finished, Ch
 ghost use Rattle.funnel.specs.Path.{primary_start};
 ghost use Rattle.funnel.specs.Search.{search_of};
 ghost use Rattle.funnel.specs.Valid.{Valid};
-ghost use Rattle.lent.specs.Lent.{words_in};
 ghost use Rattle.waiting.specs.Links.{Fits};
 
 use audit::slots::First;
 use funnel::table::{FunnelTable, Search, slot_of};
 use funnel_stages::stages::{search_fallback, search_primary};
-use lent::store::{put_word, word};
+use lent::store::Stored;
 use probe::word::funnel_key;
 use queue::keep::{remove, smallest};
 use queue::scan::Smallest;
@@ -21,33 +20,30 @@ use waiting::chain::{file, wake};
 
 // Takes the smallest ready slot of the special part, which starts at `start`, again and again: how many are placed then. The ordinary
 // marks hold the candidates and those that wait.
-pub fn take_live(
+pub fn take_live<E: Stored>(
     table: FunnelTable,
     counts: &[u64; 118],
-    words: &[u64],
+    words: &[E],
     flags: &[u8],
     marks: &mut [u8],
-    order: &mut [u64],
+    order: &mut [E],
     start: u64,
     before: u64,
-    lent: &[u8],
-    lent_order: &mut [u8],
-    bytes: bool,
 ) -> u64
-    requires { Valid table counts.now (words_in bytes words.now lent.now) marks.old × (start ≡ primary_start table.plan counts.now) × Begun table counts.now (words_in bytes words.now lent.now) flags.now start table.plan.special_len marks.old (words_in bytes order.old lent_order.old) before }
-    ensures { Finished table counts.now (words_in bytes words.now lent.now) flags.now start table.plan.special_len marks.old (words_in bytes order.old lent_order.old) before (words_in bytes order.new lent_order.new) result }
+    requires { Valid table counts.now (E.words words.now) marks.old × (start ≡ primary_start table.plan counts.now) × Begun table counts.now (E.words words.now) flags.now start table.plan.special_len marks.old (E.words order.old) before }
+    ensures { Finished table counts.now (E.words words.now) flags.now start table.plan.special_len marks.old (E.words order.old) before (E.words order.new) result }
 {
     let n = table.n;
     let m = table.plan.special_len;
     let mut placed = before;
     while placed < n {
-        match next_live(table, counts, words, marks, placed, start, lent, bytes) {
+        match next_live(table, counts, words, marks, placed, start) {
             First::At { slot } => {
                 let number = slot - start;
                 wake(marks, m, number);
                 marks[slot as usize] = 1;
                 remove(marks, 8 * m, m, number);
-                put_word(bytes, order, lent_order, placed, slot);
+                E::put(order, placed, slot);
                 placed += 1;
             }
             First::Nothing => {
@@ -59,18 +55,16 @@ pub fn take_live(
 }
 
 // The smallest candidate that is ready. Those before it are candidates no longer: they are filed, or can never be ready.
-fn next_live(
+fn next_live<E: Stored>(
     table: FunnelTable,
     counts: &[u64; 118],
-    words: &[u64],
+    words: &[E],
     marks: &mut [u8],
     placed: u64,
     start: u64,
-    lent: &[u8],
-    bytes: bool,
 ) -> First
-    requires { Valid table counts.now (words_in bytes words.now lent.now) marks.old × (start ≡ primary_start table.plan counts.now) × Fits marks.old table.plan.special_len }
-    ensures { Turned table (words_in bytes words.now lent.now) start table.plan.special_len marks.old marks.new × Chosen table (words_in bytes words.now lent.now) start table.plan.special_len placed marks.old marks.new result }
+    requires { Valid table counts.now (E.words words.now) marks.old × (start ≡ primary_start table.plan counts.now) × Fits marks.old table.plan.special_len }
+    ensures { Turned table (E.words words.now) start table.plan.special_len marks.old marks.new × Chosen table (E.words words.now) start table.plan.special_len placed marks.old marks.new result }
 {
     if table.plan.maximum <= placed {
         return First::Nothing;
@@ -83,7 +77,7 @@ fn next_live(
             }
             Smallest::At { number } => {
                 let slot = start + number;
-                match vacancy(table, counts, words, marks, start, slot, lent, bytes) {
+                match vacancy(table, counts, words, marks, start, slot) {
                     First::Nothing => {
                         remove(marks, 8 * m, m, number);
                     }
@@ -100,21 +94,19 @@ fn next_live(
 }
 
 // The slot at which the search of a special slot's identity along the special slots ends vacant.
-fn vacancy(
+fn vacancy<E: Stored>(
     table: FunnelTable,
     counts: &[u64; 118],
-    words: &[u64],
+    words: &[E],
     marks: &[u8],
     start: u64,
     slot: u64,
-    lent: &[u8],
-    bytes: bool,
 ) -> First
-    requires { Valid table counts.now (words_in bytes words.now lent.now) marks.now × (start ≡ primary_start table.plan counts.now) × (slot < table.n) }
-    ensures { result ≡ vacancy_of (special_end table (words_in bytes words.now lent.now) marks.now start slot) }
+    requires { Valid table counts.now (E.words words.now) marks.now × (start ≡ primary_start table.plan counts.now) × (slot < table.n) }
+    ensures { result ≡ vacancy_of (special_end table (E.words words.now) marks.now start slot) }
 {
-    let identity = word(bytes, words, lent, slot);
-    match find_special(table, counts, words, marks, start, identity, lent, bytes) {
+    let identity = E::word(words, slot);
+    match find_special(table, counts, words, marks, start, identity) {
         Search::Vacant { probes: _, place } => {
             let end = slot_of(place);
             return First::At { slot: end };
@@ -135,21 +127,19 @@ fn vacancy(
 }
 
 // The search for an identity along the special slots alone, with no probe made before.
-fn find_special(
+fn find_special<E: Stored>(
     table: FunnelTable,
     counts: &[u64; 118],
-    words: &[u64],
+    words: &[E],
     marks: &[u8],
     start: u64,
     identity: u64,
-    lent: &[u8],
-    bytes: bool,
 ) -> Search
-    requires { Valid table counts.now (words_in bytes words.now lent.now) marks.now × (start ≡ primary_start table.plan counts.now) }
-    ensures { result ≡ search_of (words_in bytes words.now lent.now) marks.now identity (special_path table start identity) 0 }
+    requires { Valid table counts.now (E.words words.now) marks.now × (start ≡ primary_start table.plan counts.now) }
+    ensures { result ≡ search_of (E.words words.now) marks.now identity (special_path table start identity) 0 }
 {
     let key = funnel_key(table.seed, identity);
-    let primary = search_primary(table, start, words, marks, identity, key, 0, lent, bytes);
+    let primary = search_primary(table, start, words, marks, identity, key, 0);
     let Search::Full { probes } = primary else {
         return primary;
     };
@@ -162,7 +152,5 @@ fn find_special(
         identity,
         key,
         probes,
-        lent,
-        bytes,
     )
 }

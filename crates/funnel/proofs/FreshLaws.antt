@@ -1,6 +1,6 @@
 -- What holds of a table over time: every state reached from a fresh one is sound, and what was inserted is found ever after.
 -- Assumes nothing.
-use Rattle.std.specs.Prelude.{Bool, true, false, List, [], ◌∷◌, ◌≡◌, refl, ℕ, zero, suc, ◌+◌, ◌≤◌, ◌<◌, eqb, length, set, replicate}
+use Rattle.std.specs.Prelude.{Bool, true, false, List, [], ◌∷◌, ◌≡◌, refl, ℕ, zero, suc, ◌+◌, ◌≤◌, ◌<◌, eqb, length, set, replicate, Ok, Err}
 use Rattle.std.proofs.Common.{⊎_elim, ap, sym, ◌∙◌, arith, length-set, get_or-set_other, eq-eqb, eqb-true}
 use Rattle.std.proofs.Math.ListN.{get_or}
 use Rattle.std.proofs.lemmas.List.{length-replicate}
@@ -14,13 +14,12 @@ use Rattle.geometry.specs.declared.funnel.FunnelPlan.{FunnelPlan}
 use Rattle.funnel.specs.declared.table.FunnelTable.{FunnelTable}
 use Rattle.funnel.specs.declared.table.Search.{Search}
 use Rattle.funnel.specs.declared.table.Search.TheVariants as search
-use Rattle.funnel.specs.declared.table.Insertion.{Insertion}
-use Rattle.funnel.specs.declared.table.Insertion.TheVariants as insertion
+use Rattle.funnel.specs.declared.table.InsertRefusal.TheVariants as insertion
 use Rattle.funnel.specs.Path.{Path, slot_of}
 use Rattle.funnel.specs.EveryLaws.{every_map}
 use Rattle.funnel.specs.Search.{search_of, table_path, find_of}
 use Rattle.funnel.specs.SearchLaws.{Passes, Reached, walk_vacant, walk_hit, reached_hit}
-use Rattle.funnel.specs.Insert.{Done, done, with_count, insert_by, insert_of}
+use Rattle.funnel.specs.Insert.{Insertion, reached, Done, done, with_count, insert_by, insert_of}
 use Rattle.funnel.proofs.InsertLaws.{find_count, vacant_within, Inserts, inserted_facts, unchanged, insert_changes, insert_duplicate}
 use Rattle.funnel.specs.Valid.{Valid}
 use Rattle.funnel.specs.Fresh.{State, fresh, answer_of, next, after, counted, inserted_of, occupied, Sound}
@@ -82,7 +81,7 @@ module _ (counts : List ℕ) (state : State) where
       (insert_changes state.table counts state.words state.flags other)
 
   -- what was answered as inserted is found, at that place after as many probes
-  pub found_inserted : Valid state.table counts state.words state.flags → (identity k : ℕ) (p : Place) → answer_of counts state identity ≡ insertion.Inserted k p
+  pub found_inserted : Valid state.table counts state.words state.flags → (identity k : ℕ) (p : Place) → answer_of counts state identity ≡ Ok (reached k p)
       → find_of (next counts state identity).table counts (next counts state identity).words (next counts state identity).flags identity ≡ search.Hit k p
   unfolding find_of search_of
   found_inserted valid identity k p h =
@@ -106,15 +105,15 @@ found_after counts state (other ∷ identities) identity k p h = found_after cou
 
 -- a second insertion of what is found is DUPLICATE at that place, and leaves all as it was
 pub found_duplicate : (counts : List ℕ) (state : State) (identity k : ℕ) (p : Place) → find_of state.table counts state.words state.flags identity ≡ search.Hit k p
-    → insert_of state.table counts state.words state.flags identity ≡ done (insertion.Duplicate k p) state.table state.words state.flags
+    → insert_of state.table counts state.words state.flags identity ≡ done (Err (insertion.Duplicate k p)) state.table state.words state.flags
 found_duplicate counts state identity k p h = sym (insert_duplicate state.table state.table.count counts state.words state.flags identity k p h)
 
 -- with fewer than the maximum inserted, EXHAUSTED is not answered
-pub not_exhausted : (counts : List ℕ) (state : State) (identity k : ℕ) → state.table.count < state.table.plan.maximum → answer_of counts state identity ≡ insertion.Exhausted k → ⊥
+pub not_exhausted : (counts : List ℕ) (state : State) (identity k : ℕ) → state.table.count < state.table.plan.maximum → answer_of counts state identity ≡ Err (insertion.Exhausted k) → ⊥
 unfolding insert_of insert_by
 not_exhausted counts state identity k l h = go (find_of state.table counts state.words state.flags identity) h
   where
-    go : (x : Search) → (insert_by state.table state.words state.flags identity x).answer ≡ insertion.Exhausted k → ⊥
+    go : (x : Search) → (insert_by state.table state.words state.flags identity x).answer ≡ Err (insertion.Exhausted k) → ⊥
     go (search.Range refusal) h = let z : ◌≡◌ {A = ℕ} 0 1 = cc in omega arith
     go (search.Hit j q) h = let z : ◌≡◌ {A = ℕ} 0 1 = cc in omega arith
     go (search.Full j) h = let m = rw (lt-leb _ _ l) at h in let z : ◌≡◌ {A = ℕ} 0 1 = cc in omega arith
@@ -216,28 +215,25 @@ count_after counts state (identity ∷ identities) = go (answer_of counts state 
     later : ℕ
     later = inserted_of counts (next counts state identity) identities
 
-    same : ((k : ℕ) (p : Place) → answer_of counts state identity ≡ insertion.Inserted k p → ⊥) → (next counts state identity).table.count ≡ state.table.count
+    same : ((k : ℕ) (p : Place) → answer_of counts state identity ≡ Ok (reached k p) → ⊥) → (next counts state identity).table.count ≡ state.table.count
     same n = ap (λ (d : Done). d.table.count) (unchanged state.table counts state.words state.flags identity n)
 
     go : (x : Insertion) → answer_of counts state identity ≡ x
         → (after counts (next counts state identity) identities).table.count ≡ (next counts state identity).table.count + later
         → (after counts (next counts state identity) identities).table.count ≡ state.table.count + counted x later
-    go (insertion.Inserted k p) h ih =
-        let r = (inserted_facts state.table counts state.words state.flags identity k p h).result in
+    go (Ok put) h ih =
+        let r = (inserted_facts state.table counts state.words state.flags identity put.probes put.place h).result in
         let c : (next counts state identity).table.count ≡ state.table.count + 1 = ap (λ (d : Done). d.table.count) r in
         omega arith
-    go (insertion.Range refusal) h ih = let c = same (λ k p i. let z : ◌≡◌ {A = ℕ} 0 1 = cc in omega arith) in omega arith
-    go (insertion.Duplicate j q) h ih = let c = same (λ k p i. let z : ◌≡◌ {A = ℕ} 0 1 = cc in omega arith) in omega arith
-    go (insertion.Exhausted j) h ih = let c = same (λ k p i. let z : ◌≡◌ {A = ℕ} 0 1 = cc in omega arith) in omega arith
-    go (insertion.Full j) h ih = let c = same (λ k p i. let z : ◌≡◌ {A = ℕ} 0 1 = cc in omega arith) in omega arith
+    go (Err refusal) h ih = let c = same (λ k p i. let z : ◌≡◌ {A = ℕ} 0 1 = cc in omega arith) in omega arith
 
 -- an identity is a member: it is found, and a second insertion is DUPLICATE at that place and changes nothing
 pub record Member (counts : List ℕ) (state : State) (identity k : ℕ) (p : Place) : Type 0 where
   pub found : find_of state.table counts state.words state.flags identity ≡ search.Hit k p
-  pub duplicate : insert_of state.table counts state.words state.flags identity ≡ done (insertion.Duplicate k p) state.table state.words state.flags
+  pub duplicate : insert_of state.table counts state.words state.flags identity ≡ done (Err (insertion.Duplicate k p)) state.table state.words state.flags
 
 -- what was answered as inserted is a member ever after, at the same place with the same probe count
-pub member_after : (counts : List ℕ) (state : State) → Sound counts state → (identity k : ℕ) (p : Place) → answer_of counts state identity ≡ insertion.Inserted k p
+pub member_after : (counts : List ℕ) (state : State) → Sound counts state → (identity k : ℕ) (p : Place) → answer_of counts state identity ≡ Ok (reached k p)
     → (later : List ℕ) → Member counts (after counts (next counts state identity) later) identity k p
 member_after counts state sound identity k p h later =
     let f = found_after counts (next counts state identity) later identity k p (found_inserted counts state sound.valid identity k p h) in

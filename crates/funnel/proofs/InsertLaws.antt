@@ -1,8 +1,8 @@
 -- Laws of insertion: what it does by what the search found, and what it changes. Assumes nothing.
-use Rattle.std.specs.Prelude.{Bool, List, ◌⊎◌, ℕ, ◌+◌, ◌≤◌, ◌<◌, length, set}
+use Rattle.std.specs.Prelude.{Bool, List, ◌⊎◌, ℕ, ◌+◌, ◌≤◌, ◌<◌, length, set, Ok, Err}
 use Rattle.std.proofs.Math.Bool.{true, false}
 use Rattle.std.proofs.Common.{inl, inr, arith}
-use Rattle.std.proofs.Math.Path.{◌≡◌, refl, sym}
+use Rattle.std.proofs.Math.Path.{◌≡◌, refl, ap, sym}
 use Rattle.std.proofs.Math.Dec.{leb}
 use borrow.Author.Tests.{le-leb, lt-leb, leb-false}
 use Rattle.words.specs.declared.place.Place.{Place}
@@ -10,13 +10,13 @@ use Rattle.refusal.specs.declared.RangeRefusal.{RangeRefusal}
 use Rattle.funnel.specs.declared.table.FunnelTable.{FunnelTable}
 use Rattle.funnel.specs.declared.table.Search.{Search}
 use Rattle.funnel.specs.declared.table.Search.TheVariants as search
-use Rattle.funnel.specs.declared.table.Insertion.{Insertion}
-use Rattle.funnel.specs.declared.table.Insertion.TheVariants as insertion
+use Rattle.funnel.specs.declared.table.Reached.{Reached}
+use Rattle.funnel.specs.declared.table.InsertRefusal.TheVariants as insertion
 use Rattle.funnel.specs.Path.{slot_of}
 use Rattle.funnel.specs.PathLaws.{path_below}
 use Rattle.funnel.specs.Search.{find_of, search_of}
 use Rattle.funnel.specs.SearchLaws.{walk_vacant, every_reached}
-use Rattle.funnel.specs.Insert.{Done, done, with_count, stepped, insert_by, insert_of}
+use Rattle.funnel.specs.Insert.{Insertion, reached, Done, done, with_count, stepped, insert_by, insert_of}
 use Rattle.funnel.specs.Valid.{Valid}
 
 -- the count plays no part in a search
@@ -42,34 +42,34 @@ module _ (table : FunnelTable) (count : ℕ) (counts words flags : List ℕ) (id
   at = with_count table count
 
   pub insert_range : (refusal : RangeRefusal) → find_of table counts words flags identity ≡ search.Range refusal
-      → done (insertion.Range refusal) at words flags ≡ insert_of at counts words flags identity
+      → done (Err (insertion.Range refusal)) at words flags ≡ insert_of at counts words flags identity
   unfolding insert_of insert_by
   insert_range refusal e = sym (rw (find_count table count counts words flags identity, e))
 
   pub insert_duplicate : (k : ℕ) (p : Place) → find_of table counts words flags identity ≡ search.Hit k p
-      → done (insertion.Duplicate k p) at words flags ≡ insert_of at counts words flags identity
+      → done (Err (insertion.Duplicate k p)) at words flags ≡ insert_of at counts words flags identity
   unfolding insert_of insert_by
   insert_duplicate k p e = sym (rw (find_count table count counts words flags identity, e))
 
   module _ (spent : table.plan.maximum ≤ count) where
     pub insert_spent_vacant : (k : ℕ) (p : Place) → find_of table counts words flags identity ≡ search.Vacant k p
-        → done (insertion.Exhausted k) at words flags ≡ insert_of at counts words flags identity
+        → done (Err (insertion.Exhausted k)) at words flags ≡ insert_of at counts words flags identity
     unfolding insert_of insert_by
     insert_spent_vacant k p e = sym (rw (find_count table count counts words flags identity, e, le-leb _ _ spent))
 
     pub insert_spent_full : (k : ℕ) → find_of table counts words flags identity ≡ search.Full k
-        → done (insertion.Exhausted k) at words flags ≡ insert_of at counts words flags identity
+        → done (Err (insertion.Exhausted k)) at words flags ≡ insert_of at counts words flags identity
     unfolding insert_of insert_by
     insert_spent_full k e = sym (rw (find_count table count counts words flags identity, e, le-leb _ _ spent))
 
   module _ (left : count < table.plan.maximum) where
     pub insert_full : (k : ℕ) → find_of table counts words flags identity ≡ search.Full k
-        → done (insertion.Full k) at words flags ≡ insert_of at counts words flags identity
+        → done (Err (insertion.Full k)) at words flags ≡ insert_of at counts words flags identity
     unfolding insert_of insert_by
     insert_full k e = sym (rw (find_count table count counts words flags identity, e, lt-leb _ _ left))
 
     pub insert_inserted : (k : ℕ) (p : Place) (slot : ℕ) → find_of table counts words flags identity ≡ search.Vacant k p → slot ≡ slot_of p
-        → done (insertion.Inserted k p) (stepped (insertion.Inserted k p) at) (set words slot identity) (set flags slot 1) ≡ insert_of at counts words flags identity
+        → done (Ok (reached k p)) (stepped (Ok (reached k p)) at) (set words slot identity) (set flags slot 1) ≡ insert_of at counts words flags identity
     unfolding insert_of insert_by
     insert_inserted k p slot e s = sym (rw (find_count table count counts words flags identity, e, lt-leb _ _ left, s))
 
@@ -77,7 +77,7 @@ module _ (table : FunnelTable) (count : ℕ) (counts words flags : List ℕ) (id
 pub done_table : (r : Insertion) (t u : FunnelTable) (words flags : List ℕ) (x : Done) → t ≡ u → done r t words flags ≡ x → done r u words flags ≡ x
 done_table r t u words flags x e h = rw (← e) h
 
-pub stepped_inserted : (r : Insertion) (t : FunnelTable) (k : ℕ) (p : Place) → r ≡ insertion.Inserted k p → stepped r t ≡ with_count t (t.count + 1)
+pub stepped_inserted : (r : Insertion) (t : FunnelTable) (k : ℕ) (p : Place) → r ≡ Ok (reached k p) → stepped r t ≡ with_count t (t.count + 1)
 stepped_inserted r t k p e = rw e
 
 -- ---- what an insertion changes
@@ -87,15 +87,15 @@ pub record Inserts (table : FunnelTable) (counts words flags : List ℕ) (identi
   pub found : find_of table counts words flags identity ≡ search.Vacant k p
   pub left : table.count < table.plan.maximum
   pub result : insert_of table counts words flags identity
-      ≡ done (insertion.Inserted k p) (with_count table (table.count + 1)) (set words (slot_of p) identity) (set flags (slot_of p) 1)
+      ≡ done (Ok (reached k p)) (with_count table (table.count + 1)) (set words (slot_of p) identity) (set flags (slot_of p) 1)
 
 module _ (table : FunnelTable) (counts words flags : List ℕ) (identity : ℕ) where
-  pub inserted_facts : (k : ℕ) (p : Place) → (insert_of table counts words flags identity).answer ≡ insertion.Inserted k p → Inserts table counts words flags identity k p
+  pub inserted_facts : (k : ℕ) (p : Place) → (insert_of table counts words flags identity).answer ≡ Ok (reached k p) → Inserts table counts words flags identity k p
   unfolding insert_of insert_by
   inserted_facts k p h = go (find_of table counts words flags identity) refl (leb table.plan.maximum table.count) refl h
     where
       go : (x : Search) → find_of table counts words flags identity ≡ x → (b : Bool) → leb table.plan.maximum table.count ≡ b
-          → (insert_by table words flags identity x).answer ≡ insertion.Inserted k p → Inserts table counts words flags identity k p
+          → (insert_by table words flags identity x).answer ≡ Ok (reached k p) → Inserts table counts words flags identity k p
       go (search.Range refusal) e b l h = let z : ◌≡◌ {A = ℕ} 0 1 = cc in absurd (omega arith)
       go (search.Hit j q) e b l h = let z : ◌≡◌ {A = ℕ} 0 1 = cc in absurd (omega arith)
       go (search.Full j) e true l h = let m = rw l at h in let z : ◌≡◌ {A = ℕ} 0 1 = cc in absurd (omega arith)
@@ -103,18 +103,19 @@ module _ (table : FunnelTable) (counts words flags : List ℕ) (identity : ℕ) 
       go (search.Vacant j q) e true l h = let m = rw l at h in let z : ◌≡◌ {A = ℕ} 0 1 = cc in absurd (omega arith)
       go (search.Vacant j q) e false l h =
           let m = rw l at h in
-          let a : j ≡ k = cc in
-          let b : q ≡ p = cc in
+          let same : reached j q ≡ reached k p = cc in
+          let a : j ≡ k = ap (λ (r : Reached). r.probes) same in
+          let b : q ≡ p = ap (λ (r : Reached). r.place) same in
           record { found = rw (← a, ← b) e; left = leb-false _ _ l; result = rw (e, l, ← a, ← b) }
 
   -- any other answer leaves all as it was
-  pub unchanged : ((k : ℕ) (p : Place) → (insert_of table counts words flags identity).answer ≡ insertion.Inserted k p → ⊥)
+  pub unchanged : ((k : ℕ) (p : Place) → (insert_of table counts words flags identity).answer ≡ Ok (reached k p) → ⊥)
       → insert_of table counts words flags identity ≡ done (insert_of table counts words flags identity).answer table words flags
   unfolding insert_of insert_by
   unchanged n = go (find_of table counts words flags identity) (leb table.plan.maximum table.count) refl n
     where
       go : (x : Search) (b : Bool) → leb table.plan.maximum table.count ≡ b
-          → ((k : ℕ) (p : Place) → (insert_by table words flags identity x).answer ≡ insertion.Inserted k p → ⊥)
+          → ((k : ℕ) (p : Place) → (insert_by table words flags identity x).answer ≡ Ok (reached k p) → ⊥)
           → insert_by table words flags identity x ≡ done (insert_by table words flags identity x).answer table words flags
       go (search.Range refusal) b l n = refl
       go (search.Hit j q) b l n = refl
@@ -132,8 +133,5 @@ module _ (table : FunnelTable) (counts words flags : List ℕ) (identity : ℕ) 
       same = insert_of table counts words flags identity ≡ done (insert_of table counts words flags identity).answer table words flags
 
       go : (x : Insertion) → (insert_of table counts words flags identity).answer ≡ x → ((k : ℕ) × (p : Place) × Inserts table counts words flags identity k p) ⊎ same
-      go (insertion.Inserted k p) h = inl (k, p, inserted_facts k p h)
-      go (insertion.Range refusal) h = inr (unchanged (λ k p i. let z : ◌≡◌ {A = ℕ} 0 1 = cc in absurd (omega arith)))
-      go (insertion.Duplicate j q) h = inr (unchanged (λ k p i. let z : ◌≡◌ {A = ℕ} 0 1 = cc in absurd (omega arith)))
-      go (insertion.Exhausted j) h = inr (unchanged (λ k p i. let z : ◌≡◌ {A = ℕ} 0 1 = cc in absurd (omega arith)))
-      go (insertion.Full j) h = inr (unchanged (λ k p i. let z : ◌≡◌ {A = ℕ} 0 1 = cc in absurd (omega arith)))
+      go (Ok put) h = inl (put.probes, put.place, inserted_facts put.probes put.place h)
+      go (Err refusal) h = inr (unchanged (λ k p i. let z : ◌≡◌ {A = ℕ} 0 1 = cc in absurd (omega arith)))

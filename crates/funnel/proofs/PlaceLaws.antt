@@ -1,5 +1,5 @@
 -- The placement of many identities as a loop makes it: what is left gives what the whole gives. Assumes nothing.
-use Rattle.std.specs.Prelude.{List, ◌≡◌, refl, ℕ, ◌+◌, ◌≤◌, ◌<◌, drop, get_or, set}
+use Rattle.std.specs.Prelude.{List, ◌≡◌, refl, ℕ, ◌+◌, ◌≤◌, ◌<◌, drop, get_or, set, Ok, Err}
 use Rattle.std.proofs.Common.{⊎_elim, ap, ◌∙◌, length-set, drop-cons}
 use Rattle.std.proofs.Math.Path.{sym}
 use Rattle.std.proofs.Math.Numerals.{add-one}
@@ -8,12 +8,9 @@ use Rattle.std.proofs.Math.ListN.{length}
 use Rattle.std.proofs.Math.Seq.{drop-length}
 use Rattle.geometry.specs.FunnelLaws.{plan_facts}
 use Rattle.funnel.specs.declared.table.FunnelTable.{FunnelTable}
-use Rattle.funnel.specs.declared.table.Insertion.{Insertion}
-use Rattle.funnel.specs.declared.table.Placement.{Placement}
-use Rattle.funnel.specs.declared.table.Placement.TheVariants as placement
-use Rattle.funnel.specs.declared.table.Settled.{Settled}
+use Rattle.funnel.specs.declared.table.PlaceRefusal.{PlaceRefusal}
 use Rattle.funnel.specs.declared.table.Settled.TheVariants as settled
-use Rattle.funnel.specs.Insert.{Done, done, with_count, insert_of, Settles, Placed, placed, place_on, place_from, place_all_of}
+use Rattle.funnel.specs.Insert.{Insertion, Placement, Settling, Done, done, with_count, insert_of, Settles, Placed, placed, place_on, place_from, place_all_of}
 use Rattle.funnel.proofs.InsertLaws.{inserted_facts, insert_changes}
 use Rattle.funnel.proofs.SettleLaws.{put_inserted, put_on, there_on, refused_on, there_table, refused_table}
 use Rattle.funnel.specs.Valid.{Valid}
@@ -65,7 +62,7 @@ module _ (table : FunnelTable) (counts words₀ flags₀ identities slots₀ : L
       }
 
   module _ {words flags slots : List ℕ} {count i : ℕ} (p : Placing words flags slots count i) where
-    module _ (h : i < length identities) (s : Settled) (w f : List ℕ) (e : Settles (with_count table count) counts words flags (get_or identities i 0) i s w f) where
+    module _ (h : i < length identities) (s : Settling) (w f : List ℕ) (e : Settles (with_count table count) counts words flags (get_or identities i 0) i s w f) where
       -- what the insertion leaves
       abbrev left_by : Done
       left_by = insert_of (with_count table count) counts words flags (get_or identities i 0)
@@ -97,7 +94,7 @@ module _ (table : FunnelTable) (counts words₀ flags₀ identities slots₀ : L
             same_slots = length-set slots i slot ∙ p.same_slots;
           }
 
-      pub placing_put : (slot : ℕ) → s ≡ settled.Put slot → (count < table.n) × Placing w f (set slots i slot) (count + 1) (i + 1)
+      pub placing_put : (slot : ℕ) → s ≡ Ok (settled.Put slot) → (count < table.n) × Placing w f (set slots i slot) (count + 1) (i + 1)
       placing_put slot g =
           let a = put_inserted left_by.answer i slot (sym g ∙ e.told) in
           let t = inserted_facts (with_count table count) counts words flags (get_or identities i 0) a.0 a.1 a.2 in
@@ -107,17 +104,17 @@ module _ (table : FunnelTable) (counts words₀ flags₀ identities slots₀ : L
           let c : left_by.table ≡ with_count table (count + 1) = ap (λ (d : Done). d.table) t.result in
           (b, placing_next slot (count + 1) (omega arith) (place_step ∙ put_on left_by slots i _ left_by.answer slot (sym g ∙ e.told) ∙ rw (c, e.words_are_lem, e.flags_are_lem)))
 
-      pub placing_there : (slot : ℕ) → s ≡ settled.There slot → Placing w f (set slots i slot) count (i + 1)
+      pub placing_there : (slot : ℕ) → s ≡ Ok (settled.There slot) → Placing w f (set slots i slot) count (i + 1)
       placing_there slot g =
           let c = there_table (with_count table count) counts words flags (get_or identities i 0) i slot (sym g ∙ e.told) in
           placing_next slot count p.most (place_step ∙ there_on left_by slots i _ left_by.answer slot (sym g ∙ e.told) ∙ rw (c, e.words_are_lem, e.flags_are_lem))
 
-      pub placing_refused : (q : Placement) → s ≡ settled.Refused q → placed q (with_count table count) w f slots ≡ place_all_of table counts words₀ flags₀ identities slots₀
+      pub placing_refused : (q : PlaceRefusal) → s ≡ Err q → placed (Err q) (with_count table count) w f slots ≡ place_all_of table counts words₀ flags₀ identities slots₀
       placing_refused q g =
           let c = refused_table (with_count table count) counts words flags (get_or identities i 0) i q (sym g ∙ e.told) in
           sym (place_step ∙ refused_on left_by slots i _ left_by.answer q (sym g ∙ e.told) ∙ rw (c, e.words_are_lem, e.flags_are_lem))
 
-    pub placing_all : length identities ≤ i → placed placement.All (with_count table count) words flags slots ≡ place_all_of table counts words₀ flags₀ identities slots₀
+    pub placing_all : length identities ≤ i → placed (Ok tt) (with_count table count) words flags slots ≡ place_all_of table counts words₀ flags₀ identities slots₀
     unfolding place_from
     placing_all h =
         let a = p.within in

@@ -1,39 +1,30 @@
 -- The public calls: their gate, what each answers and leaves, and what it reports. Assumes nothing.
-use Rattle.std.specs.Prelude.{not, List, [], ◌∷◌, ◌≡◌, ℕ, eqb, ltb, length, replicate}
+use Rattle.std.specs.Prelude.{not, List, [], ◌∷◌, ◌≡◌, ℕ, eqb, ltb, length, replicate, Result, Ok, Err}
 use Rattle.refusal.specs.Table.{name_of, Report, answered, refused}
+use Rattle.refusal.specs.declared.Gate.{Gate}
 use Rattle.refusal.specs.declared.Gate.TheVariants as gate
 use Rattle.refusal.specs.declared.Name.TheVariants as name
 use Rattle.words.specs.declared.place.Place.{Place}
 use Rattle.words.specs.declared.place.Place.TheVariants as place
-use Rattle.geometry.specs.Config.{refuse_if}
+use Rattle.geometry.specs.Config.{Gated, refuse_if}
 use Rattle.geometry.specs.Funnel.{IsPlan}
 use Rattle.geometry.specs.FunnelGate.{funnel_gate, is_plan}
-use Rattle.geometry.specs.declared.config.Gated.{Gated}
-use Rattle.geometry.specs.declared.config.Gated.TheVariants.{Passed, Refused}
 use Rattle.funnel.specs.declared.table.FunnelTable.{FunnelTable}
+use Rattle.funnel.specs.declared.table.Step.{Step}
+use Rattle.funnel.specs.declared.table.PlacedAll.{PlacedAll}
 use Rattle.funnel.specs.declared.table.Search.{Search}
 use Rattle.funnel.specs.declared.table.Search.TheVariants as search
-use Rattle.funnel.specs.declared.table.Insertion.{Insertion}
-use Rattle.funnel.specs.declared.table.Insertion.TheVariants as insertion
-use Rattle.funnel.specs.declared.table.Placement.{Placement}
-use Rattle.funnel.specs.declared.table.Placement.TheVariants as placement
-use Rattle.funnel.specs.declared.table.OpenAnswer.{OpenAnswer}
-use Rattle.funnel.specs.declared.table.OpenAnswer.TheVariants as opened
-use Rattle.funnel.specs.declared.table.SearchAnswer.{SearchAnswer}
-use Rattle.funnel.specs.declared.table.SearchAnswer.TheVariants as searched
-use Rattle.funnel.specs.declared.table.InsertAnswer.{InsertAnswer}
-use Rattle.funnel.specs.declared.table.InsertAnswer.TheVariants as inserted
-use Rattle.funnel.specs.declared.table.PlaceAnswer.{PlaceAnswer}
-use Rattle.funnel.specs.declared.table.PlaceAnswer.TheVariants as placing
+use Rattle.funnel.specs.declared.table.InsertRefusal.TheVariants as insertion
+use Rattle.funnel.specs.declared.table.PlaceRefusal.TheVariants as placement
 use Rattle.funnel.specs.Search.{find_of}
-use Rattle.funnel.specs.Insert.{Done, insert_of, Placed, place_all_of}
+use Rattle.funnel.specs.Insert.{Insertion, Placement, Done, insert_of, Placed, place_all_of}
 
 -- ---- the gate: "Order: 1 to 7 by number"
 
 -- what later tests say where the earlier ones pass
 abbrev pub gate_then : Gated → Gated → Gated
-gate_then (Refused g) later = Refused g
-gate_then Passed later = later
+gate_then (Err g) later = Err g
+gate_then (Ok _) later = later
 
 -- LIMITS (6): "a cap or c outside the domain"; "Funnel word cap 1 to 256"
 unfoldable pub limits_then : ℕ → Gated → Gated
@@ -50,30 +41,42 @@ table_gate table counts words flags =
     (limits_then table.word_cap
     (lengths_then table.n words flags
     (refuse_if (ltb table.n table.count) gate.State
-    (refuse_if (not (is_plan table.n table.e table.plan counts)) gate.State Passed))))
+    (refuse_if (not (is_plan table.n table.e table.plan counts)) gate.State (Ok tt)))))
 
 -- the tests of an opening
 unfoldable pub open_gate : (n e cap words flags : ℕ) → Gated
-open_gate n e cap words flags = gate_then (funnel_gate n e) (limits_then cap (lengths_then n words flags Passed))
+open_gate n e cap words flags = gate_then (funnel_gate n e) (limits_then cap (lengths_then n words flags (Ok tt)))
 
 -- the tests of a placement: the slots' buffer must have room for each identity
 unfoldable pub place_gate : FunnelTable → List ℕ → (words flags identities slots : ℕ) → Gated
-place_gate table counts words flags identities slots = gate_then (table_gate table counts words flags) (refuse_if (ltb slots identities) gate.State Passed)
+place_gate table counts words flags identities slots = gate_then (table_gate table counts words flags) (refuse_if (ltb slots identities) gate.State (Ok tt))
 
--- ---- what the calls answer and leave
+-- ---- what the calls answer and leave: a refusal of the gate, or what the call on a valid table does
+
+abbrev pub OpenAnswer : Type 0
+OpenAnswer = Result FunnelTable Gate
+
+abbrev pub SearchAnswer : Type 0
+SearchAnswer = Result Search Gate
+
+abbrev pub InsertAnswer : Type 0
+InsertAnswer = Result Step Gate
+
+abbrev pub PlaceAnswer : Type 0
+PlaceAnswer = Result PlacedAll Gate
 
 -- an opening: "Opening zeroes both; that is a fresh table", with the counts of its plan; a refusal leaves all as on entry
 unfoldable pub Opens : (n e seed cap : ℕ) (counts words flags : List ℕ) → OpenAnswer → (counts' words' flags' : List ℕ) → Type 0
-Opens n e seed cap counts words flags (opened.Gate g) counts' words' flags' =
-    (open_gate n e cap (length words) (length flags) ≡ Refused g) × (counts' ≡ counts) × (words' ≡ words) × (flags' ≡ flags)
-Opens n e seed cap counts words flags (opened.Table t) counts' words' flags' =
-    (open_gate n e cap (length words) (length flags) ≡ Passed) × IsPlan n e t.plan counts' × (words' ≡ replicate n 0) × (flags' ≡ replicate n 0)
+Opens n e seed cap counts words flags (Err g) counts' words' flags' =
+    (open_gate n e cap (length words) (length flags) ≡ Err g) × (counts' ≡ counts) × (words' ≡ words) × (flags' ≡ flags)
+Opens n e seed cap counts words flags (Ok t) counts' words' flags' =
+    (open_gate n e cap (length words) (length flags) ≡ Ok tt) × IsPlan n e t.plan counts' × (words' ≡ replicate n 0) × (flags' ≡ replicate n 0)
     × (t ≡ record { n = n; e = e; seed = seed; word_cap = cap; count = 0; plan = t.plan })
 
 -- a search
 abbrev pub search_by : Gated → Search → SearchAnswer
-search_by (Refused g) found = searched.Gate g
-search_by Passed found = searched.Found found
+search_by (Err g) found = Err g
+search_by (Ok _) found = Ok found
 
 unfoldable pub search_answer_of : FunnelTable → (counts words flags : List ℕ) (identity : ℕ) → SearchAnswer
 search_answer_of table counts words flags identity =
@@ -89,8 +92,8 @@ abbrev pub insertions : InsertAnswer → (words flags : List ℕ) → Insertions
 insertions answer words flags = record { answer = answer; words = words; flags = flags }
 
 abbrev pub insert_gated : Gated → (words flags : List ℕ) → Done → Insertions
-insert_gated (Refused g) words flags d = insertions (inserted.Gate g) words flags
-insert_gated Passed words flags d = insertions (inserted.Done (record { answer = d.answer; table = d.table })) d.words d.flags
+insert_gated (Err g) words flags d = insertions (Err g) words flags
+insert_gated (Ok _) words flags d = insertions (Ok (record { answer = d.answer; table = d.table })) d.words d.flags
 
 unfoldable pub insert_answer_of : FunnelTable → (counts words flags : List ℕ) (identity : ℕ) → Insertions
 insert_answer_of table counts words flags identity =
@@ -107,8 +110,8 @@ abbrev pub placements : PlaceAnswer → (words flags slots : List ℕ) → Place
 placements answer words flags slots = record { answer = answer; words = words; flags = flags; slots = slots }
 
 abbrev pub place_gated : Gated → (words flags slots : List ℕ) → Placed → Placements
-place_gated (Refused g) words flags slots d = placements (placing.Gate g) words flags slots
-place_gated Passed words flags slots d = placements (placing.Done (record { answer = d.answer; table = d.table })) d.words d.flags d.slots
+place_gated (Err g) words flags slots d = placements (Err g) words flags slots
+place_gated (Ok _) words flags slots d = placements (Ok (record { answer = d.answer; table = d.table })) d.words d.flags d.slots
 
 unfoldable pub place_answer_of : FunnelTable → (counts words flags identities slots : List ℕ) → Placements
 place_answer_of table counts words flags identities slots =
@@ -130,30 +133,30 @@ search_report (search.Full probes) = refused name.Full (probes ∷ [])
 search_report (search.Range refusal) = refused name.Range (refusal.words ∷ [])
 
 abbrev pub insertion_report : Insertion → Report
-insertion_report (insertion.Inserted probes place) = answered (probes ∷ place_values place)
-insertion_report (insertion.Range refusal) = refused name.Range (refusal.words ∷ [])
-insertion_report (insertion.Duplicate probes place) = refused name.Duplicate (probes ∷ place_values place)
-insertion_report (insertion.Exhausted probes) = refused name.Exhausted (probes ∷ [])
-insertion_report (insertion.Full probes) = refused name.Full (probes ∷ [])
+insertion_report (Ok put) = answered (put.probes ∷ place_values put.place)
+insertion_report (Err (insertion.Range refusal)) = refused name.Range (refusal.words ∷ [])
+insertion_report (Err (insertion.Duplicate probes place)) = refused name.Duplicate (probes ∷ place_values place)
+insertion_report (Err (insertion.Exhausted probes)) = refused name.Exhausted (probes ∷ [])
+insertion_report (Err (insertion.Full probes)) = refused name.Full (probes ∷ [])
 
 abbrev pub placement_report : Placement → Report
-placement_report placement.All = answered []
-placement_report (placement.Range index refusal) = refused name.Range (index ∷ refusal.words ∷ [])
-placement_report (placement.Exhausted index probes) = refused name.Exhausted (index ∷ probes ∷ [])
-placement_report (placement.Full index probes) = refused name.Full (index ∷ probes ∷ [])
+placement_report (Ok _) = answered []
+placement_report (Err (placement.Range index refusal)) = refused name.Range (index ∷ refusal.words ∷ [])
+placement_report (Err (placement.Exhausted index probes)) = refused name.Exhausted (index ∷ probes ∷ [])
+placement_report (Err (placement.Full index probes)) = refused name.Full (index ∷ probes ∷ [])
 
 abbrev pub open_report : OpenAnswer → Report
-open_report (opened.Gate g) = refused (name_of g) []
-open_report (opened.Table t) = answered []
+open_report (Err g) = refused (name_of g) []
+open_report (Ok t) = answered []
 
 abbrev pub searched_report : SearchAnswer → Report
-searched_report (searched.Gate g) = refused (name_of g) []
-searched_report (searched.Found found) = search_report found
+searched_report (Err g) = refused (name_of g) []
+searched_report (Ok found) = search_report found
 
 abbrev pub inserted_report : InsertAnswer → Report
-inserted_report (inserted.Gate g) = refused (name_of g) []
-inserted_report (inserted.Done step) = insertion_report step.answer
+inserted_report (Err g) = refused (name_of g) []
+inserted_report (Ok step) = insertion_report step.answer
 
 abbrev pub placed_report : PlaceAnswer → Report
-placed_report (placing.Gate g) = refused (name_of g) []
-placed_report (placing.Done all) = placement_report all.answer
+placed_report (Err g) = refused (name_of g) []
+placed_report (Ok all) = placement_report all.answer

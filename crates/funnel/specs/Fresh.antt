@@ -1,11 +1,9 @@
 -- A table over time: a fresh one, the one after some insertions, and what it is that a table is sound. Assumes nothing.
-use Rattle.std.specs.Prelude.{List, [], ◌∷◌, ◌≡◌, ℕ, ◌+◌, ◌≤◌, eqb, get_or, replicate}
+use Rattle.std.specs.Prelude.{List, [], ◌∷◌, ◌≡◌, ℕ, ◌+◌, ◌≤◌, eqb, get_or, replicate, Ok, Err}
 use Rattle.words.specs.Pick.{pick}
 use Rattle.geometry.specs.declared.funnel.FunnelPlan.{FunnelPlan}
 use Rattle.funnel.specs.declared.table.FunnelTable.{FunnelTable}
-use Rattle.funnel.specs.declared.table.Insertion.{Insertion}
-use Rattle.funnel.specs.declared.table.Insertion.TheVariants as insertion
-use Rattle.funnel.specs.Insert.{insert_of}
+use Rattle.funnel.specs.Insert.{Insertion, insert_of}
 use Rattle.funnel.specs.Valid.{Valid}
 
 -- a state with its two buffers
@@ -39,11 +37,8 @@ after counts state (identity ∷ identities) = after counts (next counts state i
 
 -- how many of them are answered as inserted
 abbrev pub counted : Insertion → ℕ → ℕ
-counted (insertion.Inserted probes place) n = n + 1
-counted (insertion.Range refusal) n = n
-counted (insertion.Duplicate probes place) n = n
-counted (insertion.Exhausted probes) n = n
-counted (insertion.Full probes) n = n
+counted (Ok put) n = n + 1
+counted (Err refusal) n = n
 
 unfoldable pub inserted_of : List ℕ → State → List ℕ → ℕ
 inserted_of counts state [] = 0

@@ -1,5 +1,5 @@
 -- In what order the parts of a path come, and when a part is reached. Assumes nothing.
-use Rattle.std.specs.Prelude.{List, [], ◌∷◌, ◌++◌, ◌⊎◌, ◌≡◌, length, get_or}
+use Rattle.std.specs.Prelude.{List, [], ◌∷◌, ◌++◌, ◌⊎◌, ◌≡◌, length, get_or, Ok, Err}
 use Rattle.std.proofs.Common.{append-nil, ap, suc-mul, zero-mul, arith, length-append}
 use Rattle.std.proofs.Math.Logic.{inl, inr}
 use Rattle.std.proofs.Math.Path.{refl, sym}
@@ -10,9 +10,7 @@ use Rattle.refusal.specs.declared.RangeRefusal.{RangeRefusal}
 use Rattle.geometry.specs.Funnel.{IsPlan}
 use Rattle.geometry.specs.declared.funnel.FunnelPlan.{FunnelPlan}
 use Rattle.probe.specs.declared.counter.Domain.TheVariants as domain
-use Rattle.probe.specs.declared.range.Drawn.{Drawn}
-use Rattle.probe.specs.declared.range.Drawn.TheVariants as drawn
-use Rattle.probe.specs.Range.{funnel_draw_of}
+use Rattle.probe.specs.Range.{Drawn, indexed, funnel_draw_of}
 use Rattle.funnel.specs.Every.{Every, Rising, Between}
 use Rattle.funnel.specs.EveryLaws.{rising_lower}
 use Rattle.funnel.specs.Path.{Ending, full, refused, Path, run, join_at, join, sampled, bucket_from, level_start, levels_from, primary_from, pairs_from, fallback_of, path_of, primary_start, fallback_start}
@@ -39,10 +37,10 @@ module _ (plan : FunnelPlan) (counts : List ℕ) (seed cap identity : ℕ) where
       go : (d : Drawn) → (sampled d (λ i. join (run (bucket_from level i (from i) 0 plan.beta)) rest)).ending ≡ full
           → (rest.ending ≡ full → length rest.places ≡ levels * plan.beta)
           → length (sampled d (λ i. join (run (bucket_from level i (from i) 0 plan.beta)) rest)).places ≡ suc levels * plan.beta
-      go (drawn.Refused refusal) h ih = absurd (not_full h)
-      go (drawn.Index i w) h ih =
+      go (Err refusal) h ih = absurd (not_full h)
+      go (Ok i) h ih =
           let l = ih h in
-          omega (arith, length-append (bucket_from level i (from i) 0 plan.beta) rest.places, bucket_length level i (from i) 0 plan.beta, suc-mul levels plan.beta)
+          omega (arith, length-append (bucket_from level i.index (from i.index) 0 plan.beta) rest.places, bucket_length level i.index (from i.index) 0 plan.beta, suc-mul levels plan.beta)
 
   -- and so are the g primary probes
   pub primary_whole_lem : (start probe probes : ℕ) → (primary_from plan start seed cap identity probe probes).ending ≡ full
@@ -57,8 +55,8 @@ module _ (plan : FunnelPlan) (counts : List ℕ) (seed cap identity : ℕ) where
       go : (d : Drawn) → (sampled d (λ s. join (run (place.SpecialPrimary s (record { 0 = start + s }) ∷ [])) rest)).ending ≡ full
           → (rest.ending ≡ full → length rest.places ≡ probes)
           → length (sampled d (λ s. join (run (place.SpecialPrimary s (record { 0 = start + s }) ∷ [])) rest)).places ≡ suc probes
-      go (drawn.Refused refusal) h ih = absurd (not_full h)
-      go (drawn.Index s w) h ih = ap suc (ih h)
+      go (Err refusal) h ih = absurd (not_full h)
+      go (Ok s) h ih = ap suc (ih h)
 
   -- "buckets A and B both sampled": unless both are, none of their slots is read
   pub record Sampled (start : ℕ) : Type 0 where
@@ -66,8 +64,8 @@ module _ (plan : FunnelPlan) (counts : List ℕ) (seed cap identity : ℕ) where
     pub b : ℕ
     pub words_a : ℕ
     pub words_b : ℕ
-    pub drawn_a : funnel_draw_of seed identity domain.FallbackA 0 plan.fallback_bucket_count cap ≡ drawn.Index a words_a
-    pub drawn_b : funnel_draw_of seed identity domain.FallbackB 0 plan.fallback_bucket_count cap ≡ drawn.Index b words_b
+    pub drawn_a : funnel_draw_of seed identity domain.FallbackA 0 plan.fallback_bucket_count cap ≡ Ok (indexed a words_a)
+    pub drawn_b : funnel_draw_of seed identity domain.FallbackB 0 plan.fallback_bucket_count cap ≡ Ok (indexed b words_b)
     pub pairs : fallback_of plan start seed cap identity
         ≡ run (pairs_from a b (start + a * plan.fallback_bucket_width) (start + b * plan.fallback_bucket_width) 0 plan.fallback_bucket_width)
 
@@ -79,9 +77,9 @@ module _ (plan : FunnelPlan) (counts : List ℕ) (seed cap identity : ℕ) where
       go : (d : Drawn) → funnel_draw_of seed identity domain.FallbackA 0 plan.fallback_bucket_count cap ≡ d
           → (e : Drawn) → funnel_draw_of seed identity domain.FallbackB 0 plan.fallback_bucket_count cap ≡ e
           → ((fallback_of plan start seed cap identity).places ≡ []) ⊎ Sampled start
-      go (drawn.Refused refusal) p e q = inl (rw p)
-      go (drawn.Index a w) p (drawn.Refused refusal) q = inl (rw (p, q))
-      go (drawn.Index a w) p (drawn.Index b x) q = inr (record { a = a; b = b; words_a = w; words_b = x; drawn_a = p; drawn_b = q; pairs = rw (p, q) })
+      go (Err refusal) p e q = inl (rw p)
+      go (Ok a) p (Err refusal) q = inl (rw (p, q))
+      go (Ok a) p (Ok b) q = inr (record { a = a.index; b = b.index; words_a = a.words; words_b = b.words; drawn_a = p; drawn_b = q; pairs = rw (p, q) })
 
 -- "slot by slot, A before B", also where A is B
 pub pairs_a : (a b at_a at_b j w i : ℕ) (d : Place) → i < w → get_or (pairs_from a b at_a at_b j w) (2 * i) d ≡ place.SpecialFallback a (j + i) (record { 0 = at_a + (j + i) })

@@ -1,15 +1,13 @@
 -- The path of an identity: the places that a search reads, in order, and how it ends. It does not depend on what the
 -- table holds. Assumes nothing.
-use Rattle.std.specs.Prelude.{List, [], ◌∷◌, ◌++◌, ℕ, zero, suc, ◌+◌, ◌*◌, take, get_or}
+use Rattle.std.specs.Prelude.{List, [], ◌∷◌, ◌++◌, ℕ, zero, suc, ◌+◌, ◌*◌, take, get_or, Ok, Err}
 use Rattle.words.specs.declared.place.Place.{Place}
 use Rattle.words.specs.declared.place.Place.TheVariants as place
 use Rattle.refusal.specs.declared.RangeRefusal.{RangeRefusal}
 use Rattle.geometry.specs.Counts.{total}
 use Rattle.geometry.specs.declared.funnel.FunnelPlan.{FunnelPlan}
 use Rattle.probe.specs.declared.counter.Domain.TheVariants as domain
-use Rattle.probe.specs.declared.range.Drawn.{Drawn}
-use Rattle.probe.specs.declared.range.Drawn.TheVariants as drawn
-use Rattle.probe.specs.Range.{funnel_draw_of}
+use Rattle.probe.specs.Range.{Drawn, funnel_draw_of}
 
 -- the global slot of a place
 abbrev pub slot_of : Place → ℕ
@@ -44,8 +42,8 @@ join p q = join_at p.ending p.places q
 
 -- the path from a draw on: by its index, or refused
 abbrev pub sampled : Drawn → (ℕ → Path) → Path
-sampled (drawn.Index index words) next = next index
-sampled (drawn.Refused refusal) next = stopped refusal
+sampled (Ok index) next = next index.index
+sampled (Err refusal) next = stopped refusal
 
 -- the levels lie side by side from slot 0 on, each bucket beta slots wide; then come the primary slots, then the fallback buckets
 abbrev pub level_start : FunnelPlan → List ℕ → ℕ → ℕ

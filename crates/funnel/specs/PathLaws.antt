@@ -1,5 +1,5 @@
 -- Laws of paths: how long they are, that every slot lies in the table, and in what order the parts come. Assumes nothing.
-use Rattle.std.specs.Prelude.{List, [], ◌∷◌, ◌≡◌, length, get_or}
+use Rattle.std.specs.Prelude.{List, [], ◌∷◌, ◌≡◌, length, get_or, Ok, Err}
 use Rattle.std.proofs.Math.Path.{refl}
 use Rattle.std.proofs.Common.{ap, suc-mul, length-append}
 use Prim.Native.Nat.{ℕ, zero, suc, ◌+◌, ◌*◌, ◌≤◌, ◌<◌}
@@ -10,9 +10,7 @@ use Rattle.geometry.specs.Funnel.{IsPlan}
 use Rattle.geometry.specs.FunnelLaws.{plan_facts}
 use Rattle.geometry.specs.declared.funnel.FunnelPlan.{FunnelPlan}
 use Rattle.probe.specs.declared.counter.Domain.TheVariants as domain
-use Rattle.probe.specs.declared.range.Drawn.{Drawn}
-use Rattle.probe.specs.declared.range.Drawn.TheVariants as drawn
-use Rattle.probe.specs.Range.{funnel_draw_of}
+use Rattle.probe.specs.Range.{Drawn, funnel_draw_of}
 use Rattle.probe.specs.RangeLaws.{funnel_draw_index}
 use Rattle.funnel.specs.Path.{Ending, full, refused, Path, slot_of, run, join_at, join, sampled, bucket_from, level_start, levels_from, primary_from, pairs_from, fallback_of, path_of, primary_start, fallback_start}
 use Rattle.funnel.specs.Every.{Every, Rising, Between}
@@ -53,10 +51,10 @@ module _ (plan : FunnelPlan) (counts : List ℕ) (seed cap identity : ℕ) where
 
       go : (d : Drawn) → length rest.places ≤ levels * plan.beta
           → length (sampled d (λ i. join (run (bucket_from level i (from i) 0 plan.beta)) rest)).places ≤ suc levels * plan.beta
-      go (drawn.Refused refusal) h = omega arith
-      go (drawn.Index i w) h =
-          let j = join_length (run (bucket_from level i (from i) 0 plan.beta)) rest in
-          let l = bucket_length level i (from i) 0 plan.beta in
+      go (Err refusal) h = omega arith
+      go (Ok i) h =
+          let j = join_length (run (bucket_from level i.index (from i.index) 0 plan.beta)) rest in
+          let l = bucket_length level i.index (from i.index) 0 plan.beta in
           omega (arith, suc-mul levels plan.beta)
 
   pub primary_length : (start probe probes : ℕ) → length (primary_from plan start seed cap identity probe probes).places ≤ probes
@@ -69,9 +67,9 @@ module _ (plan : FunnelPlan) (counts : List ℕ) (seed cap identity : ℕ) where
 
       go : (d : Drawn) → length rest.places ≤ probes
           → length (sampled d (λ s. join (run (place.SpecialPrimary s (record { 0 = start + s }) ∷ [])) rest)).places ≤ suc probes
-      go (drawn.Refused refusal) h = omega arith
-      go (drawn.Index i w) h =
-          let j = join_length (run (place.SpecialPrimary i (record { 0 = start + i }) ∷ [])) rest in
+      go (Err refusal) h = omega arith
+      go (Ok i) h =
+          let j = join_length (run (place.SpecialPrimary i.index (record { 0 = start + i.index }) ∷ [])) rest in
           omega arith
 
   pub fallback_length : (start : ℕ) → length (fallback_of plan start seed cap identity).places ≤ 2 * plan.fallback_bucket_width
@@ -83,9 +81,9 @@ module _ (plan : FunnelPlan) (counts : List ℕ) (seed cap identity : ℕ) where
       width = plan.fallback_bucket_width
 
       go : (d e : Drawn) → length (sampled d (λ a. sampled e (λ b. run (pairs_from a b (start + a * width) (start + b * width) 0 width)))).places ≤ 2 * width
-      go (drawn.Refused refusal) e = omega arith
-      go (drawn.Index a w) (drawn.Refused refusal) = omega arith
-      go (drawn.Index a w) (drawn.Index b x) = omega (arith, pairs_length a b (start + a * width) (start + b * width) 0 width)
+      go (Err refusal) e = omega arith
+      go (Ok a) (Err refusal) = omega arith
+      go (Ok a) (Ok b) = omega (arith, pairs_length a.index b.index (start + a.index * width) (start + b.index * width) 0 width)
 
   -- "Its probe count .. is at most alpha*beta + g + 4g", where the width is 2g
   pub path_length : length (path_of plan counts seed cap identity).places ≤ plan.alpha * plan.beta + (plan.loglog_ceiling + 2 * plan.fallback_bucket_width)
@@ -143,16 +141,16 @@ module _ {n e : ℕ} {plan : FunnelPlan} {counts : List ℕ} (is : IsPlan n e pl
       go : (d : Drawn) → funnel_draw_of seed identity (domain.Ordinary level) 0 (get_or counts level 0) cap ≡ d
           → Rising (level_start plan counts (suc level)) (primary_start plan counts) rest.places
           → Rising (level_start plan counts level) (primary_start plan counts) (sampled d (λ i. join (run (bucket_from level i (from i) 0 plan.beta)) rest)).places
-      go (drawn.Refused refusal) q r = let l = level_room is level below in omega (arith, primary_start_lem is)
-      go (drawn.Index i w) q r =
+      go (Err refusal) q r = let l = level_room is level below in omega (arith, primary_start_lem is)
+      go (Ok i) q r =
           let l = level_room is level below in
-          let d = funnel_draw_index seed identity (domain.Ordinary level) 0 (get_or counts level 0) cap i w l.some q in
-          let m = part_room i (get_or counts level 0) plan.beta d.below in
+          let d = funnel_draw_index seed identity (domain.Ordinary level) 0 (get_or counts level 0) cap i.index i.words l.some q in
+          let m = part_room i.index (get_or counts level 0) plan.beta d.below in
           let s : suc level ≡ level + 1 = omega arith in
           let t : level_start plan counts (suc level) ≡ level_start plan counts (level + 1) = rw s in
-          rising_append (level_start plan counts level) (from i + 0 + plan.beta) (primary_start plan counts) (bucket_from level i (from i) 0 plan.beta) rest.places
-          (rising_lower (from i + 0) (level_start plan counts level) (from i + 0 + plan.beta) (bucket_from level i (from i) 0 plan.beta) (omega arith) (bucket_rising level i (from i) 0 plan.beta))
-          (rising_lower (level_start plan counts (suc level)) (from i + 0 + plan.beta) (primary_start plan counts) rest.places (omega arith) r)
+          rising_append (level_start plan counts level) (from i.index + 0 + plan.beta) (primary_start plan counts) (bucket_from level i.index (from i.index) 0 plan.beta) rest.places
+          (rising_lower (from i.index + 0) (level_start plan counts level) (from i.index + 0 + plan.beta) (bucket_from level i.index (from i.index) 0 plan.beta) (omega arith) (bucket_rising level i.index (from i.index) 0 plan.beta))
+          (rising_lower (level_start plan counts (suc level)) (from i.index + 0 + plan.beta) (primary_start plan counts) rest.places (omega arith) r)
 
   pub primary_between : (probe probes : ℕ) → Every (Between (primary_start plan counts) (fallback_start plan counts)) (primary_from plan (primary_start plan counts) seed cap identity probe probes).places
   unfolding primary_from Every join
@@ -167,9 +165,9 @@ module _ {n e : ℕ} {plan : FunnelPlan} {counts : List ℕ} (is : IsPlan n e pl
           → Every (Between (primary_start plan counts) (fallback_start plan counts)) rest.places
           → Every (Between (primary_start plan counts) (fallback_start plan counts))
           (sampled d (λ s. join (run (place.SpecialPrimary s (record { 0 = primary_start plan counts + s }) ∷ [])) rest)).places
-      go (drawn.Refused refusal) q r = tt
-      go (drawn.Index s w) q r =
-          let d = funnel_draw_index seed identity domain.Primary probe plan.special_primary_len cap s w (plan_facts is).primary_some q in
+      go (Err refusal) q r = tt
+      go (Ok s) q r =
+          let d = funnel_draw_index seed identity domain.Primary probe plan.special_primary_len cap s.index s.words (plan_facts is).primary_some q in
           let b = d.below in
           (record { from = omega arith; to = omega arith }, r)
 
@@ -187,13 +185,13 @@ module _ {n e : ℕ} {plan : FunnelPlan} {counts : List ℕ} (is : IsPlan n e pl
       go : (d e : Drawn) → funnel_draw_of seed identity domain.FallbackA 0 plan.fallback_bucket_count cap ≡ d → funnel_draw_of seed identity domain.FallbackB 0 plan.fallback_bucket_count cap ≡ e
           → Every (Between (fallback_start plan counts) n)
           (sampled d (λ a. sampled e (λ b. run (pairs_from a b (fallback_start plan counts + a * width) (fallback_start plan counts + b * width) 0 width)))).places
-      go (drawn.Refused refusal) e p q = tt
-      go (drawn.Index a w) (drawn.Refused refusal) p q = tt
-      go (drawn.Index a w) (drawn.Index b x) p q =
+      go (Err refusal) e p q = tt
+      go (Ok a) (Err refusal) p q = tt
+      go (Ok a) (Ok b) p q =
           let some = (plan_facts is).fallback_some in
-          let i = funnel_draw_index seed identity domain.FallbackA 0 plan.fallback_bucket_count cap a w some p in
-          let j = funnel_draw_index seed identity domain.FallbackB 0 plan.fallback_bucket_count cap b x some q in
-          pairs_between (fallback_start plan counts) n a b (fallback_start plan counts + a * width) (fallback_start plan counts + b * width) 0 width (omega arith) (omega arith) (room a 0 0 i.below) (room b 0 0 j.below)
+          let i = funnel_draw_index seed identity domain.FallbackA 0 plan.fallback_bucket_count cap a.index a.words some p in
+          let j = funnel_draw_index seed identity domain.FallbackB 0 plan.fallback_bucket_count cap b.index b.words some q in
+          pairs_between (fallback_start plan counts) n a.index b.index (fallback_start plan counts + a.index * width) (fallback_start plan counts + b.index * width) 0 width (omega arith) (omega arith) (room a.index 0 0 i.below) (room b.index 0 0 j.below)
 
   -- every slot of a path is below n
   pub path_below : Every (λ p. slot_of p < n) (path_of plan counts seed cap identity).places

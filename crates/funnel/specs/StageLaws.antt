@@ -1,5 +1,5 @@
 -- The stages of a search as loops make them: what is left of a stage gives what the whole gives. Assumes nothing.
-use Rattle.std.specs.Prelude.{List, [], ◌∷◌, ◌≡◌, get_or}
+use Rattle.std.specs.Prelude.{List, [], ◌∷◌, ◌≡◌, get_or, Ok, Err}
 use Rattle.std.proofs.Common.{ap, ◌∙◌}
 use Rattle.std.proofs.Math.Path.{sym}
 use Prim.Native.Nat.{ℕ, suc, ◌+◌, ◌*◌, ◌-◌, ◌≤◌, ◌<◌}
@@ -10,17 +10,18 @@ use Rattle.refusal.specs.declared.RangeRefusal.{RangeRefusal}
 use Rattle.geometry.specs.declared.funnel.FunnelPlan.{FunnelPlan}
 use Rattle.probe.specs.declared.counter.Domain.{Domain}
 use Rattle.probe.specs.declared.counter.Domain.TheVariants as domain
-use Rattle.probe.specs.declared.range.Drawn.{Drawn}
-use Rattle.probe.specs.declared.range.Drawn.TheVariants as drawn
+use Rattle.probe.specs.declared.range.Index.{Index}
 use Rattle.probe.specs.declared.word.FunnelKey.{FunnelKey}
-use Rattle.probe.specs.Range.{domain_draw_of, funnel_draw_of}
+use Rattle.probe.specs.Range.{Drawn, domain_draw_of, funnel_draw_of}
 use Rattle.probe.specs.RangeLaws.{funnel_core, domain_draw_index}
+use Rattle.funnel.specs.declared.table.FunnelTable.{FunnelTable}
 use Rattle.funnel.specs.declared.table.Search.{Search}
 use Rattle.funnel.specs.declared.table.Search.TheVariants.{Hit, Vacant, Full, Range}
 use Rattle.funnel.specs.Path.{Path, slot_of, run, join, sampled, bucket_from, level_start, levels_from, primary_from, pairs_from, fallback_of}
 use Rattle.funnel.specs.PathLaws.{bucket_length}
+use Rattle.funnel.specs.PlanLaws.{part_room}
 use Rattle.funnel.specs.Search.{search_of}
-use Rattle.funnel.specs.Valid.{Keyed}
+use Rattle.funnel.specs.Valid.{Keyed, SpecialRoom}
 use Rattle.funnel.specs.SearchLaws.{resume, search_join, search_stopped, search_none, search_vacant, search_hit, search_other, search_full}
 
 -- ---- a bucket
@@ -78,9 +79,18 @@ drew {seed} {identity} {key} k d probe u cap r x e h =
     sym (funnel_core seed identity d probe u cap key.inner key.outer k.is_inner k.is_outer) ∙ sym e ∙ h
 
 -- and an index that it drew is below the number of values
-pub drew_below : (inner outer : ℕ) (d : Domain) (probe u cap : ℕ) {i w : ℕ} {r : Drawn} → 0 < u
-    → r ≡ domain_draw_of inner outer d probe u cap → r ≡ drawn.Index i w → i < u
-drew_below inner outer d probe u cap {i} {w} pos e h = (domain_draw_index inner outer d probe u cap i w pos (sym e ∙ h)).below
+pub drew_below : (inner outer : ℕ) (d : Domain) (probe u cap : ℕ) {i : Index} {r : Drawn} → 0 < u
+    → r ≡ domain_draw_of inner outer d probe u cap → r ≡ Ok i → i.index < u
+drew_below inner outer d probe u cap {i} pos e h = (domain_draw_index inner outer d probe u cap i.index i.words pos (sym e ∙ h)).below
+
+-- a fallback bucket that it drew lies within the room for them
+pub drew_room : {table : FunnelTable} {start words flags probes : ℕ} → SpecialRoom table start (table.plan.fallback_bucket_count * table.plan.fallback_bucket_width) words flags probes
+    → (inner outer : ℕ) (d : Domain) (probe cap : ℕ) {i : Index} {r : Drawn} → r ≡ domain_draw_of inner outer d probe table.plan.fallback_bucket_count cap → r ≡ Ok i
+    → start + i.index * table.plan.fallback_bucket_width + table.plan.fallback_bucket_width ≤ words
+drew_room {table} p inner outer d probe cap {i} e h =
+    let u = part_room i.index table.plan.fallback_bucket_count table.plan.fallback_bucket_width (drew_below inner outer d probe table.plan.fallback_bucket_count cap p.fallback e h) in
+    let w = p.within in
+    omega arith
 
 -- ---- the levels
 
@@ -108,15 +118,15 @@ module _ (plan : FunnelPlan) (counts words flags : List ℕ) (seed cap identity 
 
   module _ {level k : ℕ} (l : LevelsLeft level k) where
     pub levels_refused : (refusal : RangeRefusal) → level < plan.alpha
-        → funnel_draw_of seed identity (domain.Ordinary level) 0 (get_or counts level 0) cap ≡ drawn.Refused refusal
+        → funnel_draw_of seed identity (domain.Ordinary level) 0 (get_or counts level 0) cap ≡ Err refusal
         → Range refusal ≡ search_of words flags identity (levels_from plan counts seed cap identity 0 plan.alpha) 0
     levels_refused refusal h d = sym (l.left ∙ rw (levels_step level h, d) (search_stopped words flags identity refusal k))
 
-    pub levels_found : (bucket w start : ℕ) (found : Search) → level < plan.alpha → start ≡ level_start plan counts level
-        → funnel_draw_of seed identity (domain.Ordinary level) 0 (get_or counts level 0) cap ≡ drawn.Index bucket w
-        → found ≡ search_of words flags identity (run (bucket_from level bucket (start + bucket * plan.beta) 0 plan.beta)) k
+    pub levels_found : (bucket : Index) (start : ℕ) (found : Search) → level < plan.alpha → start ≡ level_start plan counts level
+        → funnel_draw_of seed identity (domain.Ordinary level) 0 (get_or counts level 0) cap ≡ Ok bucket
+        → found ≡ search_of words flags identity (run (bucket_from level bucket.index (start + bucket.index * plan.beta) 0 plan.beta)) k
         → search_of words flags identity (levels_from plan counts seed cap identity 0 plan.alpha) 0 ≡ resume words flags identity (levels_on (level + 1)) found
-    levels_found bucket w start found h s d f = l.left ∙ rw (levels_step level h, d, f, s) (search_join words flags identity _ (levels_on (level + 1)) k)
+    levels_found bucket start found h s d f = l.left ∙ rw (levels_step level h, d, f, s) (search_join words flags identity _ (levels_on (level + 1)) k)
 
     pub levels_end : plan.alpha ≤ level → Full k ≡ search_of words flags identity (levels_from plan counts seed cap identity 0 plan.alpha) 0
     unfolding levels_from
@@ -172,14 +182,14 @@ module _ (plan : FunnelPlan) (start : ℕ) (words flags : List ℕ) (seed cap id
 
   module _ {probe k : ℕ} (l : PrimaryLeft probe k) where
     pub primary_refused : (refusal : RangeRefusal) → probe < plan.loglog_ceiling
-        → funnel_draw_of seed identity domain.Primary probe plan.special_primary_len cap ≡ drawn.Refused refusal → Range refusal ≡ primary_whole
+        → funnel_draw_of seed identity domain.Primary probe plan.special_primary_len cap ≡ Err refusal → Range refusal ≡ primary_whole
     primary_refused refusal h d = sym (l.left ∙ rw (primary_step probe h, d) (search_stopped words flags identity refusal k))
 
-    pub primary_found : (s w : ℕ) (found : Search) → probe < plan.loglog_ceiling
-        → funnel_draw_of seed identity domain.Primary probe plan.special_primary_len cap ≡ drawn.Index s w
-        → found ≡ search_of words flags identity (run (place.SpecialPrimary s (record { 0 = start + s }) ∷ [])) k
+    pub primary_found : (s : Index) (found : Search) → probe < plan.loglog_ceiling
+        → funnel_draw_of seed identity domain.Primary probe plan.special_primary_len cap ≡ Ok s
+        → found ≡ search_of words flags identity (run (place.SpecialPrimary s.index (record { 0 = start + s.index }) ∷ [])) k
         → primary_whole ≡ resume words flags identity (primary_on (probe + 1)) found
-    primary_found s w found h d f = l.left ∙ rw (primary_step probe h, d, f) (search_join words flags identity _ (primary_on (probe + 1)) k)
+    primary_found s found h d f = l.left ∙ rw (primary_step probe h, d, f) (search_join words flags identity _ (primary_on (probe + 1)) k)
 
     pub primary_end : plan.loglog_ceiling ≤ probe → Full k ≡ primary_whole
     unfolding primary_from
@@ -236,16 +246,16 @@ module _ (plan : FunnelPlan) (start : ℕ) (words flags : List ℕ) (seed cap id
   abbrev draw_b : Drawn
   draw_b = funnel_draw_of seed identity domain.FallbackB 0 plan.fallback_bucket_count cap
 
-  pub fallback_refused_a : (refusal : RangeRefusal) → draw_a ≡ drawn.Refused refusal → Range refusal ≡ fallback_whole
+  pub fallback_refused_a : (refusal : RangeRefusal) → draw_a ≡ Err refusal → Range refusal ≡ fallback_whole
   unfolding fallback_of
   fallback_refused_a refusal d = sym (rw d (search_stopped words flags identity refusal before))
 
-  pub fallback_refused_b : (refusal : RangeRefusal) (a w : ℕ) → draw_a ≡ drawn.Index a w → draw_b ≡ drawn.Refused refusal → Range refusal ≡ fallback_whole
+  pub fallback_refused_b : (refusal : RangeRefusal) (a : Index) → draw_a ≡ Ok a → draw_b ≡ Err refusal → Range refusal ≡ fallback_whole
   unfolding fallback_of
-  fallback_refused_b refusal a w d f = sym (rw (d, f) (search_stopped words flags identity refusal before))
+  fallback_refused_b refusal a d f = sym (rw (d, f) (search_stopped words flags identity refusal before))
 
-  pub fallback_both : (a b w x : ℕ) → draw_a ≡ drawn.Index a w → draw_b ≡ drawn.Index b x
-      → search_of words flags identity (run (pairs_from a b (start + a * plan.fallback_bucket_width) (start + b * plan.fallback_bucket_width) 0 plan.fallback_bucket_width)) before
+  pub fallback_both : (a b : Index) → draw_a ≡ Ok a → draw_b ≡ Ok b
+      → search_of words flags identity (run (pairs_from a.index b.index (start + a.index * plan.fallback_bucket_width) (start + b.index * plan.fallback_bucket_width) 0 plan.fallback_bucket_width)) before
       ≡ fallback_whole
   unfolding fallback_of
-  fallback_both a b w x d f = rw (d, f)
+  fallback_both a b d f = rw (d, f)

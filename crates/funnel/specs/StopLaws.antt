@@ -1,13 +1,13 @@
 -- Laws of where a search stops, as loops use them. Assumes nothing.
-use Rattle.std.specs.Prelude.{List, ◌≡◌, ℕ, ◌+◌, ◌-◌, ◌*◌, ◌≤◌, ◌<◌, ◌^◌, get_or}
+use Rattle.std.specs.Prelude.{List, ◌≡◌, ℕ, ◌+◌, ◌-◌, ◌*◌, ◌≤◌, ◌<◌, ◌^◌, get_or, Ok}
 use Rattle.std.proofs.Math.Path.{refl, ap, sym, subst}
 use Rattle.std.proofs.Common.{◌∙◌, zero-mul, mul-le-mul_left}
 use native.Mathlib.Omega.{arith}
 use Rattle.geometry.specs.FunnelLaws.{plan_facts}
 use Rattle.probe.specs.RangeLaws.{domain_drawn}
 use Rattle.probe.specs.declared.counter.Domain.TheVariants as domain
-use Rattle.probe.specs.declared.range.Drawn.TheVariants as drawn
 use Rattle.probe.specs.declared.word.FunnelKey.{FunnelKey}
+use Rattle.probe.specs.Range.{indexed}
 use Rattle.funnel.specs.declared.table.FunnelTable.{FunnelTable}
 use Rattle.funnel.specs.declared.table.Halt.{Halt}
 use Rattle.funnel.specs.declared.table.Halt.TheVariants as halt
@@ -24,7 +24,7 @@ use Rattle.funnel.specs.StageLaws.{BucketLeft, bucket_none, bucket_vacant, bucke
 use Rattle.funnel.specs.FindLaws.{levels_part, find_levels}
 use Rattle.funnel.specs.PlanLaws.{level_none, level_room, bucket_room}
 use Rattle.funnel.specs.Valid.{Valid, Keyed}
-use Rattle.funnel.specs.Stop.{StopsAt, BucketStops, halt_of, Inside, Halts, HaltedIn, WalksTo, FirstAhead}
+use Rattle.funnel.specs.Stop.{HitAt, VacantAt, StopsAt, BucketStops, halt_of, Inside, Halts, HaltedIn, WalksTo, FirstAhead}
 
 -- a search that stopped has stopped for good
 pub stops_resume : (words flags : List ℕ) (identity : ℕ) (q : Path) (r : Stop) (found : Search) (P Q : Type 0) → (r ≡ stop.Nowhere → Q)
@@ -33,6 +33,16 @@ unfolding StopsAt resume
 stops_resume words flags identity q (stop.Hit slot) found P Q n h = record { probes = h.probes; place = h.place; is = rw h.is; there = h.there }
 stops_resume words flags identity q (stop.Vacant slot) found P Q n h = record { probes = h.probes; place = h.place; is = rw h.is; there = h.there }
 stops_resume words flags identity q stop.Nowhere found P Q n h = n refl
+
+-- what a stop at a slot says of the search
+module _ (r : Stop) (found : Search) (P : Type 0) (h : StopsAt r found P) (slot : ℕ) where
+  pub stopped_hit : r ≡ stop.Hit slot → HitAt slot found
+  unfolding StopsAt
+  stopped_hit e = subst (λ (x : Stop). StopsAt x found P) e h
+
+  pub stopped_vacant : r ≡ stop.Vacant slot → VacantAt slot found
+  unfolding StopsAt
+  stopped_vacant e = subst (λ (x : Stop). StopsAt x found P) e h
 
 -- ---- a bucket, of which no slot before the i-th stops the search
 
@@ -125,8 +135,8 @@ module _ (table : FunnelTable) (counts words flags : List ℕ) (identity : ℕ) 
     passed_found : search_of words flags identity (levels_part table counts words flags identity) 0
         ≡ resume words flags identity (levels_on table.plan counts words flags table.seed table.word_cap identity (level + 1)) found
     passed_found =
-        levels_found table.plan counts words flags table.seed table.word_cap identity p.left bucket 1 start found h p.starts
-        (drew keyed (domain.Ordinary level) 0 (get_or counts level 0) table.word_cap _ (drawn.Index bucket 1) refl
+        levels_found table.plan counts words flags table.seed table.word_cap identity p.left (indexed bucket 1) start found h p.starts
+        (drew keyed (domain.Ordinary level) 0 (get_or counts level 0) table.word_cap _ (Ok (indexed bucket 1)) refl
         (domain_drawn _ _ (domain.Ordinary level) 0 (get_or counts level 0) table.word_cap bucket 1 ((p.ahead.ahead h).first b table.word_cap valid.cap_least)))
         refl
 

@@ -3,15 +3,14 @@ ghost use Rattle.std.specs.Prelude.{[], ◌∷◌, ◌≡◌, ◌+◌, ◌*◌, 
 ghost use Rattle.funnel.specs.Path.{slot_of, run, bucket_from, pairs_from};
 ghost use Rattle.funnel.specs.Search.{search_of};
 ghost use Rattle.funnel.specs.Stop.{BucketStops, halt_of, Inside, Halts};
-ghost use Rattle.lent.specs.Lent.{words_in};
 
 use crate::table::{Halt, Search, Stop};
-use lent::store::word;
+use lent::store::Stored;
 use words::place::{GlobalSlot, Place};
 
 // The search along a bucket of w slots that starts at the slot `from`, for an even w, with some probes made before.
-pub fn scan(
-    words: &[u64],
+pub fn scan<E: Stored>(
+    words: &[E],
     flags: &[u8],
     identity: u64,
     level: u64,
@@ -19,13 +18,11 @@ pub fn scan(
     from: u64,
     w: u64,
     probes: u64,
-    lent: &[u8],
-    bytes: bool,
 ) -> Search
-    requires { (from + w ≤ length (words_in bytes words.now lent.now)) × (from + w ≤ length flags.now) × (probes + w < 2 ^ 64) × (w % 2 ≡ 0) }
-    ensures { result ≡ search_of (words_in bytes words.now lent.now) flags.now identity (run (bucket_from level bucket from 0 w)) probes }
+    requires { (from + w ≤ length (E.words words.now)) × (from + w ≤ length flags.now) × (probes + w < 2 ^ 64) × (w % 2 ≡ 0) }
+    ensures { result ≡ search_of (E.words words.now) flags.now identity (run (bucket_from level bucket from 0 w)) probes }
 {
-    let stop = halt(words, flags, identity, from, w, lent, bytes);
+    let stop = halt(words, flags, identity, from, w);
     halted(stop, level, bucket, from, w, probes)
 }
 
@@ -58,18 +55,16 @@ pub fn halted(halt: Halt, level: u64, bucket: u64, from: u64, w: u64, probes: u6
 }
 
 // Where a bucket of w slots stops a search, for an even w: two slots a turn, no place and no count of probes. The loop holds an index and
-// no slot, so that it needs few registers.
-pub fn halt(
-    words: &[u64],
+// no slot, so that it needs few registers. A range or a chain over chunks holds more, and is slower, so it counts the index itself.
+pub fn halt<E: Stored>(
+    words: &[E],
     flags: &[u8],
     identity: u64,
     from: u64,
     w: u64,
-    lent: &[u8],
-    bytes: bool,
 ) -> Halt
-    requires { (from + w ≤ length (words_in bytes words.now lent.now)) × (from + w ≤ length flags.now) × (w % 2 ≡ 0) }
-    ensures { Halts (words_in bytes words.now lent.now) flags.now identity from w result }
+    requires { (from + w ≤ length (E.words words.now)) × (from + w ≤ length flags.now) × (w % 2 ≡ 0) }
+    ensures { Halts (E.words words.now) flags.now identity from w result }
 {
     let mut i = 0;
     while i < w {
@@ -77,14 +72,14 @@ pub fn halt(
         if flags[first as usize] == 0 {
             return Halt::Vacant { index: i };
         }
-        if word(bytes, words, lent, first) == identity {
+        if E::word(words, first) == identity {
             return Halt::Hit { index: i };
         }
         let second = from + i + 1;
         if flags[second as usize] == 0 {
             return Halt::Vacant { index: i + 1 };
         }
-        if word(bytes, words, lent, second) == identity {
+        if E::word(words, second) == identity {
             return Halt::Hit { index: i + 1 };
         }
         i += 2;
@@ -93,19 +88,17 @@ pub fn halt(
 }
 
 // The same by the slot.
-pub fn pass(
-    words: &[u64],
+pub fn pass<E: Stored>(
+    words: &[E],
     flags: &[u8],
     identity: u64,
     from: u64,
     w: u64,
-    lent: &[u8],
-    bytes: bool,
 ) -> Stop
-    requires { (from + w ≤ length (words_in bytes words.now lent.now)) × (from + w ≤ length flags.now) × (w % 2 ≡ 0) }
-    ensures { BucketStops (words_in bytes words.now lent.now) flags.now identity from w result }
+    requires { (from + w ≤ length (E.words words.now)) × (from + w ≤ length flags.now) × (w % 2 ≡ 0) }
+    ensures { BucketStops (E.words words.now) flags.now identity from w result }
 {
-    match halt(words, flags, identity, from, w, lent, bytes) {
+    match halt(words, flags, identity, from, w) {
         Halt::Hit { index } => Stop::Hit { slot: from + index },
         Halt::Vacant { index } => Stop::Vacant { slot: from + index },
         Halt::Nowhere => Stop::Nowhere,
@@ -113,18 +106,16 @@ pub fn pass(
 }
 
 // The reading of one place, whose slot is `at`, with some probes made before.
-pub fn read(
-    words: &[u64],
+pub fn read<E: Stored>(
+    words: &[E],
     flags: &[u8],
     identity: u64,
     place: Place,
     at: u64,
     probes: u64,
-    lent: &[u8],
-    bytes: bool,
 ) -> Search
-    requires { (slot_of place ≡ at) × (at < length (words_in bytes words.now lent.now)) × (at < length flags.now) × (probes + 1 < 2 ^ 64) }
-    ensures { result ≡ search_of (words_in bytes words.now lent.now) flags.now identity (run (place ∷ [])) probes }
+    requires { (slot_of place ≡ at) × (at < length (E.words words.now)) × (at < length flags.now) × (probes + 1 < 2 ^ 64) }
+    ensures { result ≡ search_of (E.words words.now) flags.now identity (run (place ∷ [])) probes }
 {
     let s = at as usize;
     if flags[s] == 0 {
@@ -133,7 +124,7 @@ pub fn read(
             place,
         };
     }
-    if word(bytes, words, lent, at) == identity {
+    if E::word(words, at) == identity {
         return Search::Hit {
             probes: probes + 1,
             place,
@@ -143,8 +134,8 @@ pub fn read(
 }
 
 // The search along the fallback buckets a and b of w slots that start at `at_a` and `at_b`: slot by slot, A before B.
-pub fn scan_pairs(
-    words: &[u64],
+pub fn scan_pairs<E: Stored>(
+    words: &[E],
     flags: &[u8],
     identity: u64,
     a: u64,
@@ -153,22 +144,19 @@ pub fn scan_pairs(
     at_b: u64,
     w: u64,
     probes: u64,
-    lent: &[u8],
-    bytes: bool,
 ) -> Search
-    requires { (at_a + w ≤ length (words_in bytes words.now lent.now)) × (at_b + w ≤ length (words_in bytes words.now lent.now)) × (length (words_in bytes words.now lent.now) ≡ length flags.now) × (probes + 2 * w < 2 ^ 64) }
-    ensures { result ≡ search_of (words_in bytes words.now lent.now) flags.now identity (run (pairs_from a b at_a at_b 0 w)) probes }
+    requires { (at_a + w ≤ length (E.words words.now)) × (at_b + w ≤ length (E.words words.now)) × (length (E.words words.now) ≡ length flags.now) × (probes + 2 * w < 2 ^ 64) }
+    ensures { result ≡ search_of (E.words words.now) flags.now identity (run (pairs_from a b at_a at_b 0 w)) probes }
 {
-    let mut i = 0;
     let mut made = probes;
-    while i < w {
+    for i in 0..w {
         let first = at_a + i;
         let place_a = Place::SpecialFallback {
             bucket: a,
             slot_in_bucket: i,
             global_slot: GlobalSlot(first),
         };
-        let found_a = read(words, flags, identity, place_a, first, made, lent, bytes);
+        let found_a = read(words, flags, identity, place_a, first, made);
         let Search::Full { probes: half } = found_a else {
             return found_a;
         };
@@ -178,12 +166,11 @@ pub fn scan_pairs(
             slot_in_bucket: i,
             global_slot: GlobalSlot(second),
         };
-        let found_b = read(words, flags, identity, place_b, second, half, lent, bytes);
+        let found_b = read(words, flags, identity, place_b, second, half);
         let Search::Full { probes: both } = found_b else {
             return found_b;
         };
         made = both;
-        i += 1;
     }
     Search::Full { probes: made }
 }

@@ -4,7 +4,7 @@ ghost use Rattle.funnel.specs.Path.{slot_of};
 ghost use Rattle.funnel.specs.Insert.{with_count};
 
 use geometry::funnel::FunnelPlan;
-use refusal::{Gate, RangeRefusal};
+use refusal::RangeRefusal;
 use words::place::Place;
 
 // A table of n slots with reserve 2^-e. Its words, its flags and the counts of its levels are lent beside it.
@@ -18,7 +18,7 @@ pub struct FunnelTable {
     pub plan: FunnelPlan,
 }
 
-// What a search along a path, or along a part of one, comes to.
+// What a search along a path, or along a part of one, comes to. Not a Result: a hit, a vacancy and a path without either are each a success.
 #[derive(Clone, Copy)]
 pub enum Search {
     Hit { probes: u64, place: Place },
@@ -27,7 +27,8 @@ pub enum Search {
     Range(RangeRefusal),
 }
 
-// Where a search stops, as far as slots go: at a slot that holds the identity, at a vacant one, or nowhere among those passed.
+// Where a search stops, as far as slots go: at a slot that holds the identity, at a vacant one, or nowhere among those passed. Two kinds of slot, so
+// not an Option.
 #[derive(Clone, Copy)]
 pub enum Stop {
     Hit { slot: u64 },
@@ -35,7 +36,7 @@ pub enum Stop {
     Nowhere,
 }
 
-// Where a bucket stops a search: at the slot with an index in it, or nowhere.
+// Where a bucket stops a search: at the slot with an index in it, or nowhere. Not an Option either.
 #[derive(Clone, Copy)]
 pub enum Halt {
     Hit { index: u64 },
@@ -53,10 +54,16 @@ pub enum Walk {
     Unsettled,
 }
 
-// What an insertion into a valid table is answered.
+// The place where an identity is put, and how many probes it took to reach it.
 #[derive(Clone, Copy)]
-pub enum Insertion {
-    Inserted { probes: u64, place: Place },
+pub struct Reached {
+    pub probes: u64,
+    pub place: Place,
+}
+
+// Why an identity is not inserted into a valid table.
+#[derive(Clone, Copy)]
+pub enum InsertRefusal {
     Range(RangeRefusal),
     Duplicate { probes: u64, place: Place },
     Exhausted { probes: u64 },
@@ -66,57 +73,30 @@ pub enum Insertion {
 // The answer of an insertion and the table after it.
 #[derive(Clone, Copy)]
 pub struct Step {
-    pub answer: Insertion,
+    pub answer: Result<Reached, InsertRefusal>,
     pub table: FunnelTable,
 }
 
-// What placing many identities is answered: that all have their slot, or the first refusal with its index.
+// Why many identities are not all placed: the first refusal, with its index.
 #[derive(Clone, Copy)]
-pub enum Placement {
-    All,
+pub enum PlaceRefusal {
     Range { index: u64, refusal: RangeRefusal },
     Exhausted { index: u64, probes: u64 },
     Full { index: u64, probes: u64 },
 }
 
-// What the insertion of one identity is to a placement: its slot, where it was put or is already, or the answer that ends it.
+// The slot of one identity to a placement: where it was put, or where it is already.
 #[derive(Clone, Copy)]
 pub enum Settled {
     Put { slot: u64 },
     There { slot: u64 },
-    Refused(Placement),
 }
 
 // The answer of a placement and the table after it.
 #[derive(Clone, Copy)]
 pub struct PlacedAll {
-    pub answer: Placement,
+    pub answer: Result<(), PlaceRefusal>,
     pub table: FunnelTable,
-}
-
-// What the public calls answer: a refusal of the gate, or what the call on a valid table does.
-#[derive(Clone, Copy)]
-pub enum OpenAnswer {
-    Gate(Gate),
-    Table(FunnelTable),
-}
-
-#[derive(Clone, Copy)]
-pub enum SearchAnswer {
-    Gate(Gate),
-    Found(Search),
-}
-
-#[derive(Clone, Copy)]
-pub enum InsertAnswer {
-    Gate(Gate),
-    Done(Step),
-}
-
-#[derive(Clone, Copy)]
-pub enum PlaceAnswer {
-    Gate(Gate),
-    Done(PlacedAll),
 }
 
 // The table with another count.

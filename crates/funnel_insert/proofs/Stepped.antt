@@ -1,15 +1,10 @@
 -- The table after an answer that is not "inserted" is the table before. Assumes nothing.
+use Rattle.std.specs.Prelude.{Ok, Err}
 use mathlib.Core.Path.{◌≡◌, refl}
-use Prim.Native.Nat.{ℕ}
-use Rattle.words.specs.declared.place.Place.{Place}
 use Rattle.funnel.specs.declared.table.FunnelTable.{FunnelTable}
-use Rattle.funnel.specs.declared.table.Insertion.{Insertion}
-use Rattle.funnel.specs.declared.table.Insertion.TheVariants.{Inserted, Range, Duplicate, Exhausted, Full}
-use Rattle.funnel.specs.Insert.{stepped}
+use Rattle.funnel.specs.declared.table.Reached.{Reached}
+use Rattle.funnel.specs.Insert.{Insertion, stepped}
 
-pub unstepped : (r : Insertion) (table : FunnelTable) → ((probes : ℕ) (place : Place) → r ≡ Inserted probes place → ⊥) → stepped r table ≡ table
-unstepped (Inserted probes place) table h = absurd (h probes place refl)
-unstepped (Range refusal) table h = refl
-unstepped (Duplicate probes place) table h = refl
-unstepped (Exhausted probes) table h = refl
-unstepped (Full probes) table h = refl
+pub unstepped : (r : Insertion) (table : FunnelTable) → ((put : Reached) → r ≡ Ok put → ⊥) → stepped r table ≡ table
+unstepped (Ok put) table h = absurd (h put refl)
+unstepped (Err refusal) table h = refl

@@ -2,32 +2,25 @@
 ghost use Rattle.std.specs.Prelude.{◌≡◌, ◌≤◌};
 ghost use Rattle.funnel.specs.Insert.{done, with_count, stepped, insert_of};
 ghost use Rattle.funnel.specs.Valid.{Valid};
-ghost use Rattle.lent.specs.Lent.{words_in};
 
-use funnel::table::{FunnelTable, Insertion, Search, Step, slot_of};
+use funnel::table::{FunnelTable, InsertRefusal, Reached, Search, Step, slot_of};
 use funnel_search::search::find;
-use lent::store::put_word;
+use lent::store::Stored;
 
 // The insertion of an identity: at the first vacancy of its path, unless it is there already.
-pub fn insert(
+pub fn insert<E: Stored>(
     table: FunnelTable,
     counts: &[u64; 118],
-    words: &mut [u64],
+    words: &mut [E],
     flags: &mut [u8],
     identity: u64,
-    lent: &mut [u8],
-    bytes: bool,
 ) -> Step
-    requires { Valid table counts.now (words_in bytes words.old lent.old) flags.old }
-    ensures { done result.answer result.table (words_in bytes words.new lent.new) flags.new ≡ insert_of table counts.now (words_in bytes words.old lent.old) flags.old identity }
+    requires { Valid table counts.now (E.words words.old) flags.old }
+    ensures { done result.answer result.table (E.words words.new) flags.new ≡ insert_of table counts.now (E.words words.old) flags.old identity }
 {
     let count = table.count;
-    let answer = put(table, count, counts, words, flags, identity, lent, bytes);
-    let Insertion::Inserted {
-        probes: _,
-        place: _,
-    } = answer
-    else {
+    let answer = put(table, count, counts, words, flags, identity);
+    let Ok(_) = answer else {
         return Step { answer, table };
     };
     let mut next = table;
@@ -39,38 +32,36 @@ pub fn insert(
 }
 
 // The insertion into the table with another count, so that a loop over many identities carries a number and no table.
-pub fn put(
+pub fn put<E: Stored>(
     table: FunnelTable,
     count: u64,
     counts: &[u64; 118],
-    words: &mut [u64],
+    words: &mut [E],
     flags: &mut [u8],
     identity: u64,
-    lent: &mut [u8],
-    bytes: bool,
-) -> Insertion
-    requires { Valid table counts.now (words_in bytes words.old lent.old) flags.old × (count ≤ table.n) }
-    ensures { done result (stepped result (with_count table count)) (words_in bytes words.new lent.new) flags.new ≡ insert_of (with_count table count) counts.now (words_in bytes words.old lent.old) flags.old identity }
+) -> Result<Reached, InsertRefusal>
+    requires { Valid table counts.now (E.words words.old) flags.old × (count ≤ table.n) }
+    ensures { done result (stepped result (with_count table count)) (E.words words.new) flags.new ≡ insert_of (with_count table count) counts.now (E.words words.old) flags.old identity }
 {
     let maximum = table.plan.maximum;
-    match find(table, counts, words, flags, identity, lent, bytes) {
-        Search::Hit { probes, place } => Insertion::Duplicate { probes, place },
-        Search::Range(refusal) => Insertion::Range(refusal),
+    match find(table, counts, words, flags, identity) {
+        Search::Hit { probes, place } => Err(InsertRefusal::Duplicate { probes, place }),
+        Search::Range(refusal) => Err(InsertRefusal::Range(refusal)),
         Search::Full { probes } => {
             if maximum <= count {
-                return Insertion::Exhausted { probes };
+                return Err(InsertRefusal::Exhausted { probes });
             }
-            Insertion::Full { probes }
+            Err(InsertRefusal::Full { probes })
         }
         Search::Vacant { probes, place } => {
             if maximum <= count {
-                return Insertion::Exhausted { probes };
+                return Err(InsertRefusal::Exhausted { probes });
             }
             let slot = slot_of(place);
-            put_word(bytes, words, lent, slot, identity);
+            E::put(words, slot, identity);
             let at = slot as usize;
             flags[at] = 1;
-            Insertion::Inserted { probes, place }
+            Ok(Reached { probes, place })
         }
     }
 }

@@ -2,111 +2,103 @@
 ghost use Rattle.std.specs.Prelude.{◌≡◌, ◌≤◌, length};
 ghost use Rattle.funnel.specs.Insert.{with_count, settled_of, Settles, placed, place_all_of};
 ghost use Rattle.funnel.specs.Valid.{Valid};
-ghost use Rattle.lent.specs.Lent.{words_in};
 
 use funnel::table::{
-    FunnelTable, Insertion, PlacedAll, Placement, Settled, Stop, slot_of, with_count,
+    FunnelTable, InsertRefusal, PlaceRefusal, PlacedAll, Reached, Settled, Stop, slot_of, with_count,
 };
 use funnel_insert::insert::put;
 use funnel_search::search::pass_levels;
-use lent::store::{put_word, word, words_lent};
+use lent::store::Stored;
 
 // For each identity the slot where it is or was put, up to the first refusal. Slots past that are left as they were.
-pub fn place_all(
+pub fn place_all<E: Stored>(
     table: FunnelTable,
     counts: &[u64; 118],
-    words: &mut [u64],
+    words: &mut [E],
     flags: &mut [u8],
-    identities: &[u64],
-    slots: &mut [u64],
-    lent: &mut [u8],
-    lent_identities: &[u8],
-    lent_slots: &mut [u8],
-    bytes: bool,
+    identities: &[E],
+    slots: &mut [E],
 ) -> PlacedAll
-    requires { Valid table counts.now (words_in bytes words.old lent.old) flags.old × (length (words_in bytes identities.now lent_identities.now) ≤ length (words_in bytes slots.old lent_slots.old)) }
-    ensures { placed result.answer result.table (words_in bytes words.new lent.new) flags.new (words_in bytes slots.new lent_slots.new) ≡ place_all_of table counts.now (words_in bytes words.old lent.old) flags.old (words_in bytes identities.now lent_identities.now) (words_in bytes slots.old lent_slots.old) }
+    requires { Valid table counts.now (E.words words.old) flags.old × (length (E.words identities.now) ≤ length (E.words slots.old)) }
+    ensures { placed result.answer result.table (E.words words.new) flags.new (E.words slots.new) ≡ place_all_of table counts.now (E.words words.old) flags.old (E.words identities.now) (E.words slots.old) }
 {
     let mut count = table.count;
-    let total = words_lent(bytes, identities, lent_identities);
-    let mut i = 0;
-    while i < total {
-        let identity = word(bytes, identities, lent_identities, i);
-        match settle(table, count, counts, words, flags, identity, i, lent, bytes) {
-            Settled::Put { slot } => {
-                put_word(bytes, slots, lent_slots, i, slot);
-                count += 1;
-                i += 1;
-            }
-            Settled::There { slot } => {
-                put_word(bytes, slots, lent_slots, i, slot);
-                i += 1;
-            }
-            Settled::Refused(answer) => {
+    let total = E::count(identities);
+    for i in 0..total {
+        let identity = E::word(identities, i);
+        let settled = match settle(table, count, counts, words, flags, identity, i) {
+            Ok(settled) => settled,
+            Err(refusal) => {
                 return PlacedAll {
-                    answer,
+                    answer: Err(refusal),
                     table: with_count(table, count),
                 };
             }
-        }
+        };
+        let slot = match settled {
+            Settled::Put { slot } => {
+                count += 1;
+                slot
+            }
+            Settled::There { slot } => slot,
+        };
+        E::put(slots, i, slot);
     }
     PlacedAll {
-        answer: Placement::All,
+        answer: Ok(()),
         table: with_count(table, count),
     }
 }
 
 // The insertion of the identity at an index, as far as a placement tells it. Nearly every identity is settled by its slots in
 // the levels, and needs neither a place nor a count of probes; the others are inserted in full.
-fn settle(
+fn settle<E: Stored>(
     table: FunnelTable,
     count: u64,
     counts: &[u64; 118],
-    words: &mut [u64],
+    words: &mut [E],
     flags: &mut [u8],
     identity: u64,
     index: u64,
-    lent: &mut [u8],
-    bytes: bool,
-) -> Settled
-    requires { Valid table counts.now (words_in bytes words.old lent.old) flags.old × (count ≤ table.n) }
-    ensures { Settles (with_count table count) counts.now (words_in bytes words.old lent.old) flags.old identity index result (words_in bytes words.new lent.new) flags.new }
+) -> Result<Settled, PlaceRefusal>
+    requires { Valid table counts.now (E.words words.old) flags.old × (count ≤ table.n) }
+    ensures { Settles (with_count table count) counts.now (E.words words.old) flags.old identity index result (E.words words.new) flags.new }
 {
     let maximum = table.plan.maximum;
-    match pass_levels(table, counts, words, flags, identity, lent, bytes) {
-        Stop::Hit { slot } => Settled::There { slot },
+    match pass_levels(table, counts, words, flags, identity) {
+        Stop::Hit { slot } => Ok(Settled::There { slot }),
         Stop::Vacant { slot } => {
             if maximum <= count {
                 return settled(
-                    put(table, count, counts, words, flags, identity, lent, bytes),
+                    put(table, count, counts, words, flags, identity),
                     index,
                 );
             }
-            put_word(bytes, words, lent, slot, identity);
+            E::put(words, slot, identity);
             let at = slot as usize;
             flags[at] = 1;
-            Settled::Put { slot }
+            Ok(Settled::Put { slot })
         }
         Stop::Nowhere => settled(
-            put(table, count, counts, words, flags, identity, lent, bytes),
+            put(table, count, counts, words, flags, identity),
             index,
         ),
     }
 }
 
 // An insertion's answer as a placement tells it.
-pub fn settled(answer: Insertion, index: u64) -> Settled
+pub fn settled(answer: Result<Reached, InsertRefusal>, index: u64) -> Result<Settled, PlaceRefusal>
     ensures { result ≡ settled_of answer index }
 {
     match answer {
-        Insertion::Inserted { probes: _, place } => Settled::Put {
+        Ok(put) => Ok(Settled::Put {
+            slot: slot_of(put.place),
+        }),
+        Err(InsertRefusal::Duplicate { probes: _, place }) => Ok(Settled::There {
             slot: slot_of(place),
-        },
-        Insertion::Duplicate { probes: _, place } => Settled::There {
-            slot: slot_of(place),
-        },
-        Insertion::Range(refusal) => Settled::Refused(Placement::Range { index, refusal }),
-        Insertion::Exhausted { probes } => Settled::Refused(Placement::Exhausted { index, probes }),
-        Insertion::Full { probes } => Settled::Refused(Placement::Full { index, probes }),
+        }),
+        Err(InsertRefusal::Range(refusal)) => Err(PlaceRefusal::Range { index, refusal }),
+        Err(InsertRefusal::Exhausted { probes }) => Err(PlaceRefusal::Exhausted { index, probes }),
+        Err(InsertRefusal::Full { probes }) => Err(PlaceRefusal::Full { index, probes }),
     }
 }

@@ -5,11 +5,11 @@ ghost use Rattle.funnel.specs.Search.{search_of, find_of};
 ghost use Rattle.funnel.specs.Stop.{StopsAt, WalksTo, FirstAhead};
 ghost use Rattle.funnel.specs.declared.table.Search.TheVariants.{Full};
 ghost use Rattle.funnel.specs.Valid.{Valid, Keyed};
-ghost use Rattle.lent.specs.Lent.{words_in};
 
 use funnel::scan::{halt, halted, pass};
 use funnel::table::{FunnelTable, Halt, Search, Stop, Walk};
 use funnel_stages::stages::{search_fallback, search_levels, search_primary};
+use lent::store::Stored;
 use probe::counter::{Domain, funnel_base};
 use probe::range::first_index;
 use probe::word::{FunnelKey, funnel_key};
@@ -17,20 +17,18 @@ use words::place::LogicalProbe;
 
 // The search for an identity in a valid table. Nearly always the walk settles it, or leads past the levels; the stages that may take
 // further words are calls, and get copies of the table and of the slices, so that these stay in registers.
-pub fn find(
+pub fn find<E: Stored>(
     table: FunnelTable,
     counts: &[u64; 118],
-    words: &[u64],
+    words: &[E],
     flags: &[u8],
     identity: u64,
-    lent: &[u8],
-    bytes: bool,
 ) -> Search
-    requires { Valid table counts.now (words_in bytes words.now lent.now) flags.now }
-    ensures { result ≡ find_of table counts.now (words_in bytes words.now lent.now) flags.now identity }
+    requires { Valid table counts.now (E.words words.now) flags.now }
+    ensures { result ≡ find_of table counts.now (E.words words.now) flags.now identity }
 {
     let key = funnel_key(table.seed, identity);
-    match walk(table, counts, words, flags, identity, key, lent, bytes) {
+    match walk(table, counts, words, flags, identity, key) {
         Walk::Hit(level, bucket, from, index) => {
             let beta = table.plan.beta;
             halted(Halt::Hit { index }, level, bucket, from, beta, level * beta)
@@ -50,78 +48,70 @@ pub fn find(
             let rest = table;
             let rest_words = words;
             let rest_flags = flags;
-            let rest_lent = lent;
             let probes = rest.plan.alpha * rest.plan.beta;
             search_special(
-                rest, counts, rest_words, rest_flags, identity, key, probes, rest_lent, bytes,
+                rest, counts, rest_words, rest_flags, identity, key, probes,
             )
         }
         Walk::Unsettled => {
             let rest = table;
             let rest_words = words;
             let rest_flags = flags;
-            let rest_lent = lent;
             find_drawn(
-                rest, counts, rest_words, rest_flags, identity, key, rest_lent, bytes,
+                rest, counts, rest_words, rest_flags, identity, key,
             )
         }
     }
 }
 
 // The search along the ordinary part of an identity's path alone.
-pub fn find_ordinary(
+pub fn find_ordinary<E: Stored>(
     table: FunnelTable,
     counts: &[u64; 118],
-    words: &[u64],
+    words: &[E],
     flags: &[u8],
     identity: u64,
-    lent: &[u8],
-    bytes: bool,
 ) -> Search
-    requires { Valid table counts.now (words_in bytes words.now lent.now) flags.now }
-    ensures { result ≡ search_of (words_in bytes words.now lent.now) flags.now identity (levels_from table.plan counts.now table.seed table.word_cap identity 0 table.plan.alpha) 0 }
+    requires { Valid table counts.now (E.words words.now) flags.now }
+    ensures { result ≡ search_of (E.words words.now) flags.now identity (levels_from table.plan counts.now table.seed table.word_cap identity 0 table.plan.alpha) 0 }
 {
     let key = funnel_key(table.seed, identity);
-    search_levels(table, counts, words, flags, identity, key, lent, bytes)
+    search_levels(table, counts, words, flags, identity, key)
 }
 
 // The search by draws that can take further words.
-fn find_drawn(
+fn find_drawn<E: Stored>(
     table: FunnelTable,
     counts: &[u64; 118],
-    words: &[u64],
+    words: &[E],
     flags: &[u8],
     identity: u64,
     key: FunnelKey,
-    lent: &[u8],
-    bytes: bool,
 ) -> Search
-    requires { Valid table counts.now (words_in bytes words.now lent.now) flags.now × Keyed table.seed identity key }
-    ensures { result ≡ find_of table counts.now (words_in bytes words.now lent.now) flags.now identity }
+    requires { Valid table counts.now (E.words words.now) flags.now × Keyed table.seed identity key }
+    ensures { result ≡ find_of table counts.now (E.words words.now) flags.now identity }
 {
-    let ordinary = search_levels(table, counts, words, flags, identity, key, lent, bytes);
+    let ordinary = search_levels(table, counts, words, flags, identity, key);
     let Search::Full { probes: read } = ordinary else {
         return ordinary;
     };
     search_special(
-        table, counts, words, flags, identity, key, read, lent, bytes,
+        table, counts, words, flags, identity, key, read,
     )
 }
 
 // The search where the ordinary part of the path met neither the identity nor a vacancy.
-fn search_special(
+fn search_special<E: Stored>(
     table: FunnelTable,
     counts: &[u64; 118],
-    words: &[u64],
+    words: &[E],
     flags: &[u8],
     identity: u64,
     key: FunnelKey,
     probes: u64,
-    lent: &[u8],
-    bytes: bool,
 ) -> Search
-    requires { Valid table counts.now (words_in bytes words.now lent.now) flags.now × Keyed table.seed identity key × (search_of (words_in bytes words.now lent.now) flags.now identity (levels_from table.plan counts.now table.seed table.word_cap identity 0 table.plan.alpha) 0 ≡ Full probes) }
-    ensures { result ≡ find_of table counts.now (words_in bytes words.now lent.now) flags.now identity }
+    requires { Valid table counts.now (E.words words.now) flags.now × Keyed table.seed identity key × (search_of (E.words words.now) flags.now identity (levels_from table.plan counts.now table.seed table.word_cap identity 0 table.plan.alpha) 0 ≡ Full probes) }
+    ensures { result ≡ find_of table counts.now (E.words words.now) flags.now identity }
 {
     let primary_start = table.n - table.plan.special_len;
     let primary = search_primary(
@@ -132,8 +122,6 @@ fn search_special(
         identity,
         key,
         probes,
-        lent,
-        bytes,
     );
     let Search::Full { probes: more } = primary else {
         return primary;
@@ -147,24 +135,20 @@ fn search_special(
         identity,
         key,
         more,
-        lent,
-        bytes,
     )
 }
 
 // The levels by first words, as `pass_levels` walks them, with the numbers of a place.
-fn walk(
+fn walk<E: Stored>(
     table: FunnelTable,
     counts: &[u64; 118],
-    words: &[u64],
+    words: &[E],
     flags: &[u8],
     identity: u64,
     key: FunnelKey,
-    lent: &[u8],
-    bytes: bool,
 ) -> Walk
-    requires { Valid table counts.now (words_in bytes words.now lent.now) flags.now × Keyed table.seed identity key }
-    ensures { WalksTo table.plan.alpha table.plan.beta result (search_of (words_in bytes words.now lent.now) flags.now identity (levels_from table.plan counts.now table.seed table.word_cap identity 0 table.plan.alpha) 0) }
+    requires { Valid table counts.now (E.words words.now) flags.now × Keyed table.seed identity key }
+    ensures { WalksTo table.plan.alpha table.plan.beta result (search_of (E.words words.now) flags.now identity (levels_from table.plan counts.now table.seed table.word_cap identity 0 table.plan.alpha) 0) }
 {
     let alpha = table.plan.alpha;
     let beta = table.plan.beta;
@@ -179,7 +163,7 @@ fn walk(
         // The next level's bucket is drawn before this one is read, so that it is at hand when this one is full.
         let ahead = first_bucket(key, counts, table.plan.alpha, level + 1);
         let from = start + bucket * beta;
-        match halt(words, flags, identity, from, beta, lent, bytes) {
+        match halt(words, flags, identity, from, beta) {
             Halt::Hit { index } => {
                 return Walk::Hit(level, bucket, from, index);
             }
@@ -197,17 +181,15 @@ fn walk(
 }
 
 // The slot that the levels settle a search with. What first words do not settle is left to `find`.
-pub fn pass_levels(
+pub fn pass_levels<E: Stored>(
     table: FunnelTable,
     counts: &[u64; 118],
-    words: &[u64],
+    words: &[E],
     flags: &[u8],
     identity: u64,
-    lent: &[u8],
-    bytes: bool,
 ) -> Stop
-    requires { Valid table counts.now (words_in bytes words.now lent.now) flags.now }
-    ensures { StopsAt result (find_of table counts.now (words_in bytes words.now lent.now) flags.now identity) (Unit {0}) }
+    requires { Valid table counts.now (E.words words.now) flags.now }
+    ensures { StopsAt result (find_of table counts.now (E.words words.now) flags.now identity) (Unit {0}) }
 {
     let key = funnel_key(table.seed, identity);
     let alpha = table.plan.alpha;
@@ -223,7 +205,7 @@ pub fn pass_levels(
         // As in `search_levels`, the next level's bucket is drawn before this one is read.
         let ahead = first_bucket(key, counts, table.plan.alpha, level + 1);
         let from = start + bucket * beta;
-        let stop = pass(words, flags, identity, from, beta, lent, bytes);
+        let stop = pass(words, flags, identity, from, beta);
         let Stop::Nowhere = stop else {
             return stop;
         };

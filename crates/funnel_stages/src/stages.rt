@@ -5,46 +5,40 @@ ghost use Rattle.probe.specs.Range.{domain_draw_of};
 ghost use Rattle.funnel.specs.Path.{levels_from, primary_from, fallback_of};
 ghost use Rattle.funnel.specs.Search.{search_of};
 ghost use Rattle.funnel.specs.Valid.{Valid, Keyed, SpecialRoom};
-ghost use Rattle.lent.specs.Lent.{words_in};
 
 use funnel::scan::{read, scan, scan_pairs};
 use funnel::table::{FunnelTable, Search};
+use lent::store::Stored;
 use probe::counter::Domain;
-use probe::range::{Drawn, funnel_draw};
+use probe::range::{Index, funnel_draw};
 use probe::word::FunnelKey;
+use refusal::RangeRefusal;
 use words::place::{GlobalSlot, LogicalProbe, Place};
 
 // "per level one bucket, slots in order"
-pub fn search_levels(
+pub fn search_levels<E: Stored>(
     table: FunnelTable,
     counts: &[u64; 118],
-    words: &[u64],
+    words: &[E],
     flags: &[u8],
     identity: u64,
     key: FunnelKey,
-    lent: &[u8],
-    bytes: bool,
 ) -> Search
-    requires { Valid table counts.now (words_in bytes words.now lent.now) flags.now × Keyed table.seed identity key }
-    ensures { result ≡ search_of (words_in bytes words.now lent.now) flags.now identity (levels_from table.plan counts.now table.seed table.word_cap identity 0 table.plan.alpha) 0 }
+    requires { Valid table counts.now (E.words words.now) flags.now × Keyed table.seed identity key }
+    ensures { result ≡ search_of (E.words words.now) flags.now identity (levels_from table.plan counts.now table.seed table.word_cap identity 0 table.plan.alpha) 0 }
 {
     let alpha = table.plan.alpha;
     let beta = table.plan.beta;
-    let mut level = 0;
     let mut start = 0;
     let mut probes = 0;
-    while level < alpha {
+    for level in 0..alpha {
         let count = counts[level as usize];
         let cap = table.word_cap;
         match sample(key, Domain::Ordinary { level }, LogicalProbe(0), count, cap) {
-            Drawn::Refused(refusal) => {
-                return Search::Range(refusal);
-            }
-            Drawn::Index { index, words: _ } => {
-                let from = start + index * beta;
-                let found = scan(
-                    words, flags, identity, level, index, from, beta, probes, lent, bytes,
-                );
+            Err(refusal) => return Search::Range(refusal),
+            Ok(bucket) => {
+                let from = start + bucket.index * beta;
+                let found = scan(words, flags, identity, level, bucket.index, from, beta, probes);
                 let Search::Full { probes: read } = found else {
                     return found;
                 };
@@ -52,91 +46,84 @@ pub fn search_levels(
             }
         }
         start += count * beta;
-        level += 1;
     }
     Search::Full { probes }
 }
 
 // "then g primary probes", among the primary slots from `start` on, with some probes made before
-pub fn search_primary(
+pub fn search_primary<E: Stored>(
     table: FunnelTable,
     start: u64,
-    words: &[u64],
+    words: &[E],
     flags: &[u8],
     identity: u64,
     key: FunnelKey,
     probes: u64,
-    lent: &[u8],
-    bytes: bool,
 ) -> Search
-    requires { SpecialRoom table start table.plan.special_primary_len (length (words_in bytes words.now lent.now)) (length flags.now) probes × Keyed table.seed identity key }
-    ensures { result ≡ search_of (words_in bytes words.now lent.now) flags.now identity (primary_from table.plan start table.seed table.word_cap identity 0 table.plan.loglog_ceiling) probes }
+    requires { SpecialRoom table start table.plan.special_primary_len (length (E.words words.now)) (length flags.now) probes × Keyed table.seed identity key }
+    ensures { result ≡ search_of (E.words words.now) flags.now identity (primary_from table.plan start table.seed table.word_cap identity 0 table.plan.loglog_ceiling) probes }
 {
     let primary_len = table.plan.special_primary_len;
     let loglog_ceiling = table.plan.loglog_ceiling;
-    let mut probe = 0;
     let mut made = probes;
-    while probe < loglog_ceiling {
+    for probe in 0..loglog_ceiling {
         let cap = table.word_cap;
         match sample(key, Domain::Primary, LogicalProbe(probe), primary_len, cap) {
-            Drawn::Refused(refusal) => {
-                return Search::Range(refusal);
-            }
-            Drawn::Index { index, words: _ } => {
-                let at = start + index;
+            Err(refusal) => return Search::Range(refusal),
+            Ok(drew) => {
+                let at = start + drew.index;
                 let place = Place::SpecialPrimary {
-                    slot: index,
+                    slot: drew.index,
                     global_slot: GlobalSlot(at),
                 };
-                let found = read(words, flags, identity, place, at, made, lent, bytes);
+                let found = read(words, flags, identity, place, at, made);
                 let Search::Full { probes: now_made } = found else {
                     return found;
                 };
                 made = now_made;
             }
         }
-        probe += 1;
     }
     Search::Full { probes: made }
 }
 
 // "then buckets A and B both sampled, slot by slot, A before B", among the fallback buckets from `start` on
-pub fn search_fallback(
+pub fn search_fallback<E: Stored>(
     table: FunnelTable,
     start: u64,
-    words: &[u64],
+    words: &[E],
     flags: &[u8],
     identity: u64,
     key: FunnelKey,
     probes: u64,
-    lent: &[u8],
-    bytes: bool,
 ) -> Search
-    requires { SpecialRoom table start (table.plan.fallback_bucket_count * table.plan.fallback_bucket_width) (length (words_in bytes words.now lent.now)) (length flags.now) probes × Keyed table.seed identity key }
-    ensures { result ≡ search_of (words_in bytes words.now lent.now) flags.now identity (fallback_of table.plan start table.seed table.word_cap identity) probes }
+    requires { SpecialRoom table start (table.plan.fallback_bucket_count * table.plan.fallback_bucket_width) (length (E.words words.now)) (length flags.now) probes × Keyed table.seed identity key }
+    ensures { result ≡ search_of (E.words words.now) flags.now identity (fallback_of table.plan start table.seed table.word_cap identity) probes }
 {
     let buckets = table.plan.fallback_bucket_count;
     let width = table.plan.fallback_bucket_width;
     let cap = table.word_cap;
-    match sample(key, Domain::FallbackA, LogicalProbe(0), buckets, cap) {
-        Drawn::Refused(refusal) => Search::Range(refusal),
-        Drawn::Index { index: a, words: _ } => {
-            match sample(key, Domain::FallbackB, LogicalProbe(0), buckets, cap) {
-                Drawn::Refused(refusal) => Search::Range(refusal),
-                Drawn::Index { index: b, words: _ } => {
-                    let at_a = start + a * width;
-                    let at_b = start + b * width;
-                    scan_pairs(
-                        words, flags, identity, a, b, at_a, at_b, width, probes, lent, bytes,
-                    )
-                }
-            }
-        }
-    }
+    let a = match sample(key, Domain::FallbackA, LogicalProbe(0), buckets, cap) {
+        Err(refusal_a) => return Search::Range(refusal_a),
+        Ok(a) => a.index,
+    };
+    let b = match sample(key, Domain::FallbackB, LogicalProbe(0), buckets, cap) {
+        Err(refusal_b) => return Search::Range(refusal_b),
+        Ok(b) => b.index,
+    };
+    let at_a = start + a * width;
+    let at_b = start + b * width;
+    scan_pairs(words, flags, identity, a, b, at_a, at_b, width, probes)
 }
 
 // An index below upper, by the key of an identity: the Rust's `sample`.
-pub fn sample(key: FunnelKey, domain: Domain, probe: LogicalProbe, upper: u64, cap: u64) -> Drawn
+pub fn sample(
+    key: FunnelKey,
+    domain: Domain,
+    probe: LogicalProbe,
+    upper: u64,
+    cap: u64,
+) -> Result<Index, RangeRefusal>
     requires { (level_of domain < 2 ^ 46) × (probe.0 < 256) × (0 < upper) × (cap ≤ 256) }
     ensures { result ≡ domain_draw_of key.inner key.outer domain probe.0 upper cap }
 {

@@ -5,13 +5,13 @@ use Rattle.audit.specs.WaitsLaws.{vacancy_found}
 use Rattle.audit_special.proofs.special.vacancy.Goals as goal
 
 pub returns-in-Vacant : goal.returns-in-Vacant
-returns-in-Vacant c = vacancy_found c.args.table _ _ _ _ _ c.word-identity.ensures _ c.find_special.ensures _ c.in-Vacant.is _ (ap At c.slot_of-end.ensures)
+returns-in-Vacant g c = vacancy_found c.args.table _ _ _ _ _ c.word-identity.ensures _ c.find_special.ensures _ c.in-Vacant.is _ (ap At c.slot_of-end.ensures)
 
 pub returns-in-Hit : goal.returns-in-Hit
-returns-in-Hit c = vacancy_found c.args.table _ _ _ _ _ c.word-identity.ensures _ c.find_special.ensures _ c.in-Hit.is _ refl
+returns-in-Hit g c = vacancy_found c.args.table _ _ _ _ _ c.word-identity.ensures _ c.find_special.ensures _ c.in-Hit.is _ refl
 
 pub returns-in-Full : goal.returns-in-Full
-returns-in-Full c = vacancy_found c.args.table _ _ _ _ _ c.word-identity.ensures _ c.find_special.ensures _ c.in-Full.is _ refl
+returns-in-Full g c = vacancy_found c.args.table _ _ _ _ _ c.word-identity.ensures _ c.find_special.ensures _ c.in-Full.is _ refl
 
 pub returns-in-Range : goal.returns-in-Range
-returns-in-Range c = vacancy_found c.args.table _ _ _ _ _ c.word-identity.ensures _ c.find_special.ensures _ c.in-Range.is _ refl
+returns-in-Range g c = vacancy_found c.args.table _ _ _ _ _ c.word-identity.ensures _ c.find_special.ensures _ c.in-Range.is _ refl

@@ -4,16 +4,16 @@ use Rattle.funnel.specs.StopLaws.{halts_hit, halts_vacant, halts_nowhere, inside
 use Rattle.funnel.proofs.scan.pass.Goals as goal
 
 pub overflow_add-result : goal.overflow_add-result
-overflow_add-result c = let l = inside_hit _ _ c.halt.ensures.inside _ c.in-Hit.is in omega arith
+overflow_add-result g c = let l = inside_hit _ _ c.halt.ensures.inside _ c.in-Hit.is in omega arith
 
 pub overflow_add-result-in-Vacant : goal.overflow_add-result-in-Vacant
-overflow_add-result-in-Vacant c = let l = inside_vacant _ _ c.halt.ensures.inside _ c.in-Vacant.is in omega arith
+overflow_add-result-in-Vacant g c = let l = inside_vacant _ _ c.halt.ensures.inside _ c.in-Vacant.is in omega arith
 
 pub returns-in-Hit : goal.returns-in-Hit
-returns-in-Hit c = halts_hit _ _ _ _ _ _ c.halt.ensures _ c.in-Hit.is
+returns-in-Hit g c = halts_hit _ _ _ _ _ _ c.halt.ensures _ c.in-Hit.is
 
 pub returns-in-Vacant : goal.returns-in-Vacant
-returns-in-Vacant c = halts_vacant _ _ _ _ _ _ c.halt.ensures _ c.in-Vacant.is
+returns-in-Vacant g c = halts_vacant _ _ _ _ _ _ c.halt.ensures _ c.in-Vacant.is
 
 pub returns-in-Nowhere : goal.returns-in-Nowhere
-returns-in-Nowhere c = halts_nowhere _ _ _ _ _ _ c.halt.ensures c.in-Nowhere.is
+returns-in-Nowhere g c = halts_nowhere _ _ _ _ _ _ c.halt.ensures c.in-Nowhere.is

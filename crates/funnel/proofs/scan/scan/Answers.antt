@@ -3,4 +3,4 @@ use mathlib.Core.Path.{sym, ◌∙◌}
 use Rattle.funnel.proofs.scan.scan.Goals as goal
 
 pub returns : goal.returns
-returns c = c.halted.ensures ∙ sym (c.halt-stop.ensures.says _ _ _)
+returns g c = c.halted.ensures ∙ sym (c.halt-stop.ensures.says _ _ _)

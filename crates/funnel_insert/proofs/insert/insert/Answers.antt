@@ -4,7 +4,7 @@ use Rattle.funnel_insert.proofs.Stepped.{unstepped}
 use Rattle.funnel_insert.proofs.insert.insert.Goals as goal
 
 pub returns-in_default : goal.returns-in_default
-returns-in_default c = done_table _ _ _ _ _ _ (unstepped c.put-answer.result _ c.in_default.not-Inserted) c.put-answer.ensures
+returns-in_default g c = done_table _ _ _ _ _ _ (unstepped c.put-answer.result _ c.in_default.not-Ok) c.put-answer.ensures
 
 pub returns : goal.returns
-returns c = done_table _ _ _ _ _ _ (stepped_inserted _ c.args.table _ _ c.in-Inserted.is) c.put-answer.ensures
+returns g c = done_table _ _ _ _ _ _ (stepped_inserted _ c.args.table _ _ c.in-Ok.is) c.put-answer.ensures

@@ -5,25 +5,25 @@ use Rattle.funnel.proofs.InsertLaws.{vacant_within, insert_range, insert_duplica
 use Rattle.funnel_insert.proofs.insert.put.Goals as goal
 
 pub returns-then-maximum-count : goal.returns-then-maximum-count
-returns-then-maximum-count c = insert_spent_full _ _ _ _ _ _ c.if-maximum-count.true _ (sym c.find.ensures ∙ c.in-Full.is)
+returns-then-maximum-count g c = insert_spent_full _ _ _ _ _ _ c.if-maximum-count.true _ (sym c.find.ensures ∙ c.in-Full.is)
 
 pub returns-then-maximum-count-2 : goal.returns-then-maximum-count-2
-returns-then-maximum-count-2 c = insert_spent_vacant _ _ _ _ _ _ c.if-maximum-count-2.true _ _ (sym c.find.ensures ∙ c.in-Vacant.is)
+returns-then-maximum-count-2 g c = insert_spent_vacant _ _ _ _ _ _ c.if-maximum-count-2.true _ _ (sym c.find.ensures ∙ c.in-Vacant.is)
 
-pub put_word-requires : goal.put_word-requires
-put_word-requires c = let l = vacant_within c.requires.0 _ _ _ (sym c.find.ensures ∙ c.in-Vacant.is) in let s = c.slot_of-slot.ensures in omega arith
+pub put-requires : goal.put-requires
+put-requires g c = let l = vacant_within c.requires.0 _ _ _ (sym c.find.ensures ∙ c.in-Vacant.is) in let s = c.slot_of-slot.ensures in omega arith
 
 pub bounds-flags-at : goal.bounds-flags-at
-bounds-flags-at c = let l = vacant_within c.requires.0 _ _ _ (sym c.find.ensures ∙ c.in-Vacant.is) in let s = c.slot_of-slot.ensures in omega arith
+bounds-flags-at g c = let l = vacant_within c.requires.0 _ _ _ (sym c.find.ensures ∙ c.in-Vacant.is) in let s = c.slot_of-slot.ensures in omega arith
 
 pub returns-in-Hit : goal.returns-in-Hit
-returns-in-Hit c = insert_duplicate _ _ _ _ _ _ _ _ (sym c.find.ensures ∙ c.in-Hit.is)
+returns-in-Hit g c = insert_duplicate _ _ _ _ _ _ _ _ (sym c.find.ensures ∙ c.in-Hit.is)
 
 pub returns-in-Range : goal.returns-in-Range
-returns-in-Range c = insert_range _ _ _ _ _ _ _ (sym c.find.ensures ∙ c.in-Range.is)
+returns-in-Range g c = insert_range _ _ _ _ _ _ _ (sym c.find.ensures ∙ c.in-Range.is)
 
 pub returns-else-maximum-count : goal.returns-else-maximum-count
-returns-else-maximum-count c = insert_full _ _ _ _ _ _ c.if-maximum-count.false _ (sym c.find.ensures ∙ c.in-Full.is)
+returns-else-maximum-count g c = insert_full _ _ _ _ _ _ c.if-maximum-count.false _ (sym c.find.ensures ∙ c.in-Full.is)
 
 pub returns-else-maximum-count-2 : goal.returns-else-maximum-count-2
-returns-else-maximum-count-2 c = rw c.put_word.ensures (insert_inserted _ _ _ _ _ _ c.if-maximum-count-2.false _ _ _ (sym c.find.ensures ∙ c.in-Vacant.is) c.slot_of-slot.ensures)
+returns-else-maximum-count-2 g c = rw c.put.ensures (insert_inserted _ _ _ _ _ _ c.if-maximum-count-2.false _ _ _ (sym c.find.ensures ∙ c.in-Vacant.is) c.slot_of-slot.ensures)

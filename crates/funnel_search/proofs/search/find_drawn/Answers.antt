@@ -5,10 +5,10 @@ use Rattle.funnel.proofs.Stays.{stays}
 use Rattle.funnel_search.proofs.search.find_drawn.Goals as goal
 
 pub returns-in_default : goal.returns-in_default
-returns-in_default c = stays _ _ _ _ _ c.in_default.not-Full ∙ sym (find_levels _ _ _ _ _ _ c.search_levels-ordinary.ensures)
+returns-in_default g c = stays _ _ _ _ _ c.in_default.not-Full ∙ sym (find_levels _ _ _ _ _ _ c.search_levels-ordinary.ensures)
 
 pub search_special-requires : goal.search_special-requires
-search_special-requires c = (c.requires.0, c.requires.1, sym c.search_levels-ordinary.ensures ∙ c.in-Full.is)
+search_special-requires g c = (c.requires.0, c.requires.1, sym c.search_levels-ordinary.ensures ∙ c.in-Full.is)
 
 pub returns : goal.returns
-returns c = c.search_special.ensures
+returns g c = c.search_special.ensures

@@ -8,39 +8,36 @@ use Rattle.funnel.proofs.Stays.{stays}
 use Rattle.funnel_stages.proofs.stages.search_levels.Goals as goal
 
 pub loop-level-init : goal.loop-level-init
-loop-level-init c = (omega arith, level_none c.args.table.plan c.args.counts.now, omega arith, levels_none _ _ _ _ _ _ _)
-
-pub offset_bounds-counts-level : goal.offset_bounds-counts-level
-offset_bounds-counts-level c = let f = plan_facts c.requires.0.planned in let l = c.loop-level-test.true in omega arith
+loop-level-init g c = (level_none c.args.table.plan c.args.counts.now, omega arith, levels_none _ _ _ _ _ _ _)
 
 pub bounds-counts-level : goal.bounds-counts-level
-bounds-counts-level c = let f = plan_facts c.requires.0.planned in let l = c.loop-level-test.true in omega arith
+bounds-counts-level g c = let f = plan_facts c.requires.0.planned in let l = c.loop-level-test.true in omega arith
 
 pub sample-requires : goal.sample-requires
-sample-requires c = let r = level_room c.requires.0.planned _ c.loop-level-test.true in
+sample-requires g c = let r = level_room c.requires.0.planned _ c.loop-level-test.true in
     let f = plan_facts c.requires.0.planned in
     let v = c.requires.0 in
     let l = c.loop-level-test.true in
     (omega arith, omega arith, omega arith, omega arith)
 
-pub returns-in-Refused : goal.returns-in-Refused
-returns-in-Refused c = levels_refused _ _ _ _ _ _ _ c.loop-level.invariant.3 _ c.loop-level-test.true (drew c.requires.1 _ _ _ _ _ _ c.sample.ensures c.in-Refused.is)
+pub returns-in-Err : goal.returns-in-Err
+returns-in-Err g c = levels_refused _ _ _ _ _ _ _ c.loop-level.invariant.2 _ c.loop-level-test.true (drew c.requires.1 _ _ _ _ _ _ c.sample.ensures c.in-Err.is)
 
 pub overflow_mul-from : goal.overflow_mul-from
-overflow_mul-from c = let d = drew_below _ _ _ _ _ _ (level_room c.requires.0.planned _ c.loop-level-test.true).some c.sample.ensures c.in-Index.is in
+overflow_mul-from g c = let d = drew_below _ _ _ _ _ _ (level_room c.requires.0.planned _ c.loop-level-test.true).some c.sample.ensures c.in-Ok.is in
     let b = bucket_room c.requires.0.planned _ _ c.loop-level-test.true d in
     let f = plan_facts c.requires.0.planned in
     omega arith
 
 pub overflow_add-from : goal.overflow_add-from
-overflow_add-from c = let d = drew_below _ _ _ _ _ _ (level_room c.requires.0.planned _ c.loop-level-test.true).some c.sample.ensures c.in-Index.is in
+overflow_add-from g c = let d = drew_below _ _ _ _ _ _ (level_room c.requires.0.planned _ c.loop-level-test.true).some c.sample.ensures c.in-Ok.is in
     let b = bucket_room c.requires.0.planned _ _ c.loop-level-test.true d in
     let f = plan_facts c.requires.0.planned in
-    let s = c.loop-level.invariant.1 in
+    let s = c.loop-level.invariant.0 in
     omega arith
 
 pub scan-found-requires : goal.scan-found-requires
-scan-found-requires c = let d = drew_below _ _ _ _ _ _ (level_room c.requires.0.planned _ c.loop-level-test.true).some c.sample.ensures c.in-Index.is in
+scan-found-requires g c = let d = drew_below _ _ _ _ _ _ (level_room c.requires.0.planned _ c.loop-level-test.true).some c.sample.ensures c.in-Ok.is in
     let b = bucket_room c.requires.0.planned _ _ c.loop-level-test.true d in
     let f = plan_facts c.requires.0.planned in
     let v = c.requires.0 in
@@ -49,33 +46,27 @@ scan-found-requires c = let d = drew_below _ _ _ _ _ _ (level_room c.requires.0.
     omega arith
 
 pub returns-in_default : goal.returns-in_default
-returns-in_default c = stays _ _ _ _ _ c.in_default.not-Full ∙ sym (levels_found _ _ _ _ _ _ _ c.loop-level.invariant.3 _ _ _ _ c.loop-level-test.true c.loop-level.invariant.1 (drew c.requires.1 _ _ _ _ _ _ c.sample.ensures c.in-Index.is) c.scan-found.ensures)
+returns-in_default g c = stays _ _ _ _ _ c.in_default.not-Full ∙ sym (levels_found _ _ _ _ _ _ _ c.loop-level.invariant.2 _ _ _ c.loop-level-test.true c.loop-level.invariant.0 (drew c.requires.1 _ _ _ _ _ _ c.sample.ensures c.in-Ok.is) c.scan-found.ensures)
 
 pub overflow_mul-start : goal.overflow_mul-start
-overflow_mul-start c = let r = level_room c.requires.0.planned _ c.loop-level-test.true in
+overflow_mul-start g c = let r = level_room c.requires.0.planned _ c.loop-level-test.true in
     let f = plan_facts c.requires.0.planned in
     omega arith
 
 pub overflow_add-start : goal.overflow_add-start
-overflow_add-start c = let r = level_room c.requires.0.planned _ c.loop-level-test.true in
+overflow_add-start g c = let r = level_room c.requires.0.planned _ c.loop-level-test.true in
     let f = plan_facts c.requires.0.planned in
-    let s = c.loop-level.invariant.1 in
+    let s = c.loop-level.invariant.0 in
     omega arith
-
-pub overflow_add-level : goal.overflow_add-level
-overflow_add-level c = let f = plan_facts c.requires.0.planned in let l = c.loop-level-test.true in omega arith
-
-pub loop-level-smaller : goal.loop-level-smaller
-loop-level-smaller c = let l = c.loop-level-test.true in omega arith
 
 pub loop-level-preserved : goal.loop-level-preserved
 unfolding resume
-loop-level-preserved c = let r = level_room c.requires.0.planned _ c.loop-level-test.true in
+loop-level-preserved g c = let r = level_room c.requires.0.planned _ c.loop-level-test.true in
     let f = plan_facts c.requires.0.planned in
     let j = bucket_full _ _ _ _ _ _ _ _ _ _ c.scan-found.ensures c.in-Full.is in
     let s = c.loop-level.invariant in
     let t = c.loop-level-test.true in
-    (omega arith, omega arith, omega arith, record { left = levels_found _ _ _ _ _ _ _ c.loop-level.invariant.3 _ _ _ _ c.loop-level-test.true c.loop-level.invariant.1 (drew c.requires.1 _ _ _ _ _ _ c.sample.ensures c.in-Index.is) c.scan-found.ensures ∙ ap (resume _ _ _ _) c.in-Full.is })
+    (omega arith, omega arith, record { left = levels_found _ _ _ _ _ _ _ c.loop-level.invariant.2 _ _ _ c.loop-level-test.true c.loop-level.invariant.0 (drew c.requires.1 _ _ _ _ _ _ c.sample.ensures c.in-Ok.is) c.scan-found.ensures ∙ ap (resume _ _ _ _) c.in-Full.is })
 
 pub returns : goal.returns
-returns c = levels_end _ _ _ _ _ _ _ c.loop-level.invariant.3 c.loop-level-test.false
+returns g c = levels_end _ _ _ _ _ _ _ c.loop-level.invariant.2 c.loop-level-test.false

@@ -1,15 +1,11 @@
 -- `funnel_stages::stages::search_levels` meets its contract. The invariant: the levels that are left give what all give, `start` is where the
 -- next begins, and no level takes more than 54 probes. Assumes nothing.
-use Prim.Native.Nat.{◌-◌, ◌≤◌, ◌*◌}
+use Prim.Native.Nat.{◌≤◌, ◌*◌}
 use mathlib.Core.Path.{◌≡◌}
-use Rattle.lent.specs.Lent.{words_in}
 use Rattle.funnel.specs.Path.{level_start}
 use Rattle.funnel.specs.StageLaws.{LevelsLeft}
 use Rattle.funnel_stages.proofs.stages.search_levels.Given as goal
 
 abbrev pub invariant-loop-level : goal.invariant-loop-level
-invariant-loop-level l = (l.level ≤ l.alpha) × (l.start ≡ level_start l.table.plan l.counts l.level) × (l.probes ≤ l.level * 54)
-    × LevelsLeft l.table.plan l.counts (words_in l.bytes l.words l.lent) l.flags l.table.seed l.table.word_cap l.identity l.level l.probes
-
-abbrev pub decreases-loop-level : goal.decreases-loop-level
-decreases-loop-level l = l.alpha - l.level
+invariant-loop-level g l = (l.start ≡ level_start l.table.plan l.counts l.level) × (l.probes ≤ l.level * 54)
+    × LevelsLeft l.table.plan l.counts (g.E.Stored.words l.words) l.flags l.table.seed l.table.word_cap l.identity l.level l.probes

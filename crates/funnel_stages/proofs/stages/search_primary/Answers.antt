@@ -1,42 +1,30 @@
 use mathlib.Core.Path.{sym, ◌∙◌, ap, refl}
 use native.Mathlib.Omega.{arith}
 use Rattle.funnel.specs.SearchLaws.{resume}
-use Rattle.funnel.specs.StageLaws.{drew, drew_below, read_full, primary_none, primary_refused, primary_found, primary_end}
+use Rattle.funnel.specs.StageLaws.{drew, drew_below, read_full, primary_refused, primary_found, primary_end}
 use Rattle.funnel.proofs.Stays.{stays}
 use Rattle.funnel_stages.proofs.stages.search_primary.Goals as goal
 
-pub loop-probe-init : goal.loop-probe-init
-loop-probe-init c = (omega arith, omega arith, primary_none _ _ _ _ _ _ _ _)
-
-pub sample-requires : goal.sample-requires
-sample-requires c = let p = c.requires.0 in omega arith
-
-pub returns-in-Refused : goal.returns-in-Refused
-returns-in-Refused c = primary_refused _ _ _ _ _ _ _ _ c.loop-probe.invariant.2 _ c.loop-probe-test.true (drew c.requires.1 _ _ _ _ _ _ c.sample.ensures c.in-Refused.is)
+pub returns-in-Err : goal.returns-in-Err
+returns-in-Err g c = primary_refused _ _ _ _ _ _ _ _ c.loop-probe.invariant.1 _ c.loop-probe-test.true (drew c.requires.1 _ _ _ _ _ _ c.sample.ensures c.in-Err.is)
 
 pub overflow_add-at : goal.overflow_add-at
-overflow_add-at c = let p = c.requires.0 in
-    let d = drew_below _ _ _ _ _ _ p.primary c.sample.ensures c.in-Index.is in
+overflow_add-at g c = let p = c.requires.0 in
+    let d = drew_below _ _ _ _ _ _ p.primary c.sample.ensures c.in-Ok.is in
     omega arith
 
 pub read-found-requires : goal.read-found-requires
-read-found-requires c = let p = c.requires.0 in
-    let d = drew_below _ _ _ _ _ _ p.primary c.sample.ensures c.in-Index.is in
+read-found-requires g c = let p = c.requires.0 in
+    let d = drew_below _ _ _ _ _ _ p.primary c.sample.ensures c.in-Ok.is in
     (refl, omega arith, omega arith, omega arith)
 
 pub returns-in_default : goal.returns-in_default
-returns-in_default c = stays _ _ _ _ _ c.in_default.not-Full ∙ sym (primary_found _ _ _ _ _ _ _ _ c.loop-probe.invariant.2 _ _ _ c.loop-probe-test.true (drew c.requires.1 _ _ _ _ _ _ c.sample.ensures c.in-Index.is) c.read-found.ensures)
-
-pub overflow_add-probe : goal.overflow_add-probe
-overflow_add-probe c = let p = c.requires.0 in omega arith
-
-pub loop-probe-smaller : goal.loop-probe-smaller
-loop-probe-smaller c = omega arith
+returns-in_default g c = stays _ _ _ _ _ c.in_default.not-Full ∙ sym (primary_found _ _ _ _ _ _ _ _ c.loop-probe.invariant.1 _ _ c.loop-probe-test.true (drew c.requires.1 _ _ _ _ _ _ c.sample.ensures c.in-Ok.is) c.read-found.ensures)
 
 pub loop-probe-preserved : goal.loop-probe-preserved
 unfolding resume
-loop-probe-preserved c = let j = read_full _ _ _ _ _ _ _ c.read-found.ensures c.in-Full.is in
-    (omega arith, omega arith, record { left = primary_found _ _ _ _ _ _ _ _ c.loop-probe.invariant.2 _ _ _ c.loop-probe-test.true (drew c.requires.1 _ _ _ _ _ _ c.sample.ensures c.in-Index.is) c.read-found.ensures ∙ ap (resume _ _ _ _) c.in-Full.is })
+loop-probe-preserved g c = let j = read_full _ _ _ _ _ _ _ c.read-found.ensures c.in-Full.is in
+    (omega arith, record { left = primary_found _ _ _ _ _ _ _ _ c.loop-probe.invariant.1 _ _ c.loop-probe-test.true (drew c.requires.1 _ _ _ _ _ _ c.sample.ensures c.in-Ok.is) c.read-found.ensures ∙ ap (resume _ _ _ _) c.in-Full.is })
 
 pub returns : goal.returns
-returns c = primary_end _ _ _ _ _ _ _ _ c.loop-probe.invariant.2 c.loop-probe-test.false
+returns g c = primary_end _ _ _ _ _ _ _ _ c.loop-probe.invariant.1 c.loop-probe-test.false
