@@ -9,8 +9,8 @@ use Rattle.elastic.specs.declared.route.Reading.{Reading}
 use Rattle.elastic.specs.declared.route.Vacant.{Vacant}
 
 -- what a probe reads: a slot, and how many words its draw took; or that all its words were rejected
-abbrev pub read_at : (slot words : ℕ) → Reading
-read_at slot words = record { slot = slot; words = words }
+abbrev pub read_slot : (slot words : ℕ) → Reading
+read_slot slot words = record { slot = slot; words = words }
 
 abbrev pub Routed : Type 0
 Routed = Result Reading RangeRefusal
@@ -28,7 +28,7 @@ Located = Option ℕ
 
 -- an index drawn in a level is a slot of the table
 abbrev pub reading_by : (offset : ℕ) → Drawn → Routed
-reading_by offset (Ok drew) = Ok (read_at (offset + drew.index) drew.words)
+reading_by offset (Ok drew) = Ok (read_slot (offset + drew.index) drew.words)
 reading_by offset (Err refusal) = Err refusal
 
 -- the slot that a probe of a level reads for the identity of a key, and the words that it took

@@ -18,7 +18,7 @@ use Rattle.probe.specs.Range.{indexed, Drawn, keyed_draw_of}
 use Rattle.probe.specs.RangeLaws.{keyed_draw_index, Drew}
 use Rattle.elastic.specs.declared.route.Reading.{Reading}
 use Rattle.elastic.specs.declared.route.Vacant.{Vacant}
-use Rattle.elastic.specs.Reading.{read_at, Routed, vacant, Sought, Located, reading_by, reading_of, vacant_at, holds_at, seek_by, seek_from, seek_of, first_from, first_of, Without, Probed, Read}
+use Rattle.elastic.specs.Reading.{read_slot, Routed, vacant, Sought, Located, reading_by, reading_of, vacant_at, holds_at, seek_by, seek_from, seek_of, first_from, first_of, Without, Probed, Read}
 
 -- ---- levels that can be probed
 
@@ -51,7 +51,7 @@ module _ {n last cap level : ℕ} (p : Probed n last cap level) where
 
 module _ {n last cap level : ℕ} (p : Probed n last cap level) (key probe o l : ℕ) (eo : o ≡ offset_at n level) (el : l ≡ length_at n level) (d : Drawn)
     (ed : d ≡ keyed_draw_of key level probe l cap) where
-  pub reading_index : (i w : ℕ) → d ≡ Ok (indexed i w) → Ok (read_at (o + i) w) ≡ reading_of n key cap level probe
+  pub reading_index : (i w : ℕ) → d ≡ Ok (indexed i w) → Ok (read_slot (o + i) w) ≡ reading_of n key cap level probe
   unfolding reading_of
   reading_index i w h = sym (rw (← el, ← ed, h, ← eo))
 
@@ -63,16 +63,16 @@ module _ {n last cap level : ℕ} (p : Probed n last cap level) (key probe o l :
   pub index_drew : (i w : ℕ) → d ≡ Ok (indexed i w) → Drew l cap i w
   index_drew i w h = keyed_draw_index key level probe l cap i w (omega (arith, el, probed_some p)) (sym ed ∙ h)
 
-pub reading_read : {n last cap level : ℕ} → Probed n last cap level → (key probe s w : ℕ) → reading_of n key cap level probe ≡ Ok (read_at s w) → Read n cap level s w
+pub reading_read : {n last cap level : ℕ} → Probed n last cap level → (key probe s w : ℕ) → reading_of n key cap level probe ≡ Ok (read_slot s w) → Read n cap level s w
 unfolding reading_of
 reading_read {n} {last} {cap} {level} p key probe s w h = go (keyed_draw_of key level probe (length_at n level) cap) refl h
   where
-    go : (d : Drawn) → d ≡ keyed_draw_of key level probe (length_at n level) cap → reading_by (offset_at n level) d ≡ Ok (read_at s w) → Read n cap level s w
+    go : (d : Drawn) → d ≡ keyed_draw_of key level probe (length_at n level) cap → reading_by (offset_at n level) d ≡ Ok (read_slot s w) → Read n cap level s w
     go (Err r) e q = let z : ◌≡◌ {A = ℕ} 0 1 = cc in absurd (omega arith)
     go (Ok drew) e q =
         let i = drew.index in
         let u = drew.words in
-        let both : read_at (offset_at n level + drew.index) drew.words ≡ read_at s w = cc in
+        let both : read_slot (offset_at n level + drew.index) drew.words ≡ read_slot s w = cc in
         let a : offset_at n level + i ≡ s = ap (λ (x : Reading). x.slot) both in
         let b : u ≡ w = ap (λ (x : Reading). x.words) both in
         let f : Drew (length_at n level) cap i u = keyed_draw_index key level probe (length_at n level) cap i u (probed_some p) (sym e) in
@@ -96,7 +96,7 @@ module _ (n key cap : ℕ) (fs : List ℕ) (level : ℕ) where
     unfolding seek_from
     sought_refused r e = sym (k.rest ∙ rw (one, e))
 
-    module _ (s w : ℕ) (e : reading_of n key cap level probe ≡ Ok (read_at s w)) where
+    module _ (s w : ℕ) (e : reading_of n key cap level probe ≡ Ok (read_slot s w)) where
       pub sought_vacant : get_or fs s 0 ≡ 0 → Ok (Some (vacant s (record { 0 = probe }))) ≡ seek_of n key cap fs level tries
       unfolding seek_from
       sought_vacant v = sym (k.rest ∙ rw (one, e, eq-eqb (get_or fs s 0) 0 v))

@@ -20,7 +20,7 @@ use Rattle.elastic_probe.specs.TreeLaws.{Node, node_mapped, node_empty, node_roo
 use Rattle.probe.specs.Word.{elastic_key_of}
 use Rattle.elastic.specs.declared.state.State.{State}
 use Rattle.elastic.specs.State.{gate_of, Valid}
-use Rattle.elastic.specs.Reading.{read_at, Routed, reading_of, holds_at, Probed}
+use Rattle.elastic.specs.Reading.{read_slot, Routed, reading_of, holds_at, Probed}
 use Rattle.std.proofs.Common.{Continue, Break}
 use Rattle.elastic_query.specs.declared.query.QueryRefusal.TheVariants as refusal
 use Rattle.elastic_query.specs.Query.{QueryAnswer, within, walk_of, positions_of, look_of, query_of}
@@ -86,7 +86,7 @@ module _ (route : ℕ → ℕ → Routed) (holds : ℕ → Bool) (levels cap : �
     unfolding from walk_of
     from_refused r n = rw (one_more p l, e, n)
 
-    module _ (slot words : ℕ) (is : route (i - 1) (j - 1) ≡ Ok (read_at slot words)) where
+    module _ (slot words : ℕ) (is : route (i - 1) (j - 1) ≡ Ok (read_slot slot words)) where
       from_miss : holds slot ≡ false → from route holds levels cap p m w ≡ from route holds levels cap (p + 1) (m + 1) (w + charged i j words)
       unfolding from walk_of charged
       from_miss n =
@@ -106,7 +106,7 @@ module _ (route : ℕ → ℕ → Routed) (holds : ℕ → Bool) (levels cap : �
         → Scanned (from route holds levels cap p m w) (Break (Err (refusal.Range r))) (λ m w. from route holds levels cap (p + 1) m w) (p + 1)
     visit_refused r n = record { same = from_refused p m w i j v.near v.fine.few v.is r n; fine = tt }
 
-    module _ (slot words extra : ℕ) (is : route (i - 1) (j - 1) ≡ Ok (read_at slot words)) (x : extra ≡ charged i j words) where
+    module _ (slot words extra : ℕ) (is : route (i - 1) (j - 1) ≡ Ok (read_slot slot words)) (x : extra ≡ charged i j words) where
       pub visit_hit : holds slot ≡ true
           → Scanned (from route holds levels cap p m w)
           (Break (Ok (record { position = p; global_slot = record { 0 = slot }; mapped = m + 1; gap = p - (m + 1); words = w + extra })))
@@ -132,7 +132,7 @@ module _ (route : ℕ → ℕ → Routed) (holds : ℕ → Bool) (levels cap : �
     unfolding positions_of walk_of
     first_refused r n = sym (rw (positive, one_gap, n))
 
-    module _ (slot words : ℕ) (is : route 0 0 ≡ Ok (read_at slot words)) where
+    module _ (slot words : ℕ) (is : route 0 0 ≡ Ok (read_slot slot words)) where
       pub first_hit : holds slot ≡ true
           → Ok (record { position = 1; global_slot = record { 0 = slot }; mapped = 0; gap = 1; words = words }) ≡ positions_of route holds levels cap
       unfolding positions_of walk_of

@@ -5,7 +5,7 @@ use Rattle.geometry.specs.Elastic.{levels_of}
 use Rattle.elastic_probe.specs.Phi.{at, coords_of}
 use Rattle.elastic_probe.specs.TreeLaws.{Node}
 use Rattle.std.proofs.Common.{ControlFlow, Continue, Break}
-use Rattle.elastic.specs.Reading.{read_at, Routed}
+use Rattle.elastic.specs.Reading.{read_slot, Routed}
 use Rattle.elastic_query.specs.declared.query.Cost.{Cost}
 use Rattle.elastic_query.specs.Query.{QueryAnswer, Tally, within, walk_of}
 
@@ -25,7 +25,7 @@ charged i j words = pick (eqb (i - 1 + (j - 1)) 0) 0 words
 pub record Missed (route : ℕ → ℕ → Routed) (holds : ℕ → Bool) (level probe : ℕ) : Type 0 where
   pub slot : ℕ
   pub words : ℕ
-  pub is : route level probe ≡ Ok (read_at slot words)
+  pub is : route level probe ≡ Ok (read_slot slot words)
   pub other : holds slot ≡ false
 
 -- what holds of the counts where position p is next
