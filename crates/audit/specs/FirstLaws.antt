@@ -6,7 +6,7 @@ use native.Mathlib.Omega.{arith}
 use Rattle.words.specs.Pick.{pick}
 use Rattle.queue.specs.FirstLaws as numbers
 use Rattle.queue.specs.Queue.{first_in, Found}
-use Rattle.audit.specs.Greedy.{first_from}
+use Rattle.audit.specs.Greedy.{First, first_from}
 
 first_is : (test : ℕ → Bool) (from k : ℕ) → first_from test from k ≡ first_in test from k
 unfolding first_from first_in
@@ -29,6 +29,11 @@ first_at test from k s l h e before = first_is test from k ∙ numbers.first_at 
 
 pub first_all : (test : ℕ → Bool) (from k : ℕ) → ((t : ℕ) → from ≤ t → t < from + k → test t ≡ false) → first_from test from k ≡ None
 first_all test from k h = first_is test from k ∙ numbers.first_all test from k h
+
+-- none, where it is no slot
+pub none_left : (r : First) → ((s : ℕ) → r ≡ Some s → ⊥) → r ≡ None
+none_left (Some s) h = absurd (h s refl)
+none_left None h = refl
 
 -- two tests that agree on the range
 pub first_alike : (test other : ℕ → Bool) (from k : ℕ) → ((t : ℕ) → from ≤ t → t < from + k → test t ≡ other t) → first_from test from k ≡ first_from other from k

@@ -33,7 +33,9 @@ pub fn take_live<E: Stored>(
 {
     let n = table.n;
     let m = table.plan.special_len;
-    for placed in before..n {
+    // No range: `placed` is the answer too, where no candidate is ready and where no slot is left.
+    let mut placed = before;
+    while placed < n {
         let Some(slot) = next_live(table, counts, words, marks, placed, start) else {
             return placed;
         };
@@ -42,8 +44,9 @@ pub fn take_live<E: Stored>(
         marks[slot as usize] = 1;
         remove(marks, 8 * m, m, number);
         E::put(order, placed, slot);
+        placed += 1;
     }
-    n
+    placed
 }
 
 // The smallest candidate that is ready. Those before it are candidates no longer: they are filed, or can never be ready.

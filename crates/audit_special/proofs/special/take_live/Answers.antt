@@ -1,6 +1,7 @@
 use Rattle.geometry.specs.FunnelLaws.{plan_facts}
 use native.Mathlib.Omega.{arith}
 use mathlib.Core.Path.{refl, sym, ◌∙◌}
+use Rattle.audit.specs.FirstLaws.{none_left}
 use Rattle.audit.specs.GreedyLaws.{valid_marks}
 use Rattle.audit.specs.VerdictLaws.{special_room}
 use Rattle.audit.specs.WaitsLaws.{doing_end, doing_chained, doing_stop, choice_within, marked_queue, doing_placed}
@@ -40,7 +41,7 @@ pub shape_of-order-in_default : goal.shape_of-order-in_default
 shape_of-order-in_default g c = c.loop-placed.invariant.1
 
 pub returns-in_default : goal.returns-in_default
-returns-in_default g c = record { end = λ whole d. doing_stop c.requires.0.planned c.requires.1 (special_room c.requires.0.planned c.requires.1) (c.loop-placed.invariant.0.on whole d) c.next_live.ensures.0 _ c.next_live.ensures.1 c.in_default.not-Some c.loop-placed-test.true }
+returns-in_default g c = record { end = λ whole d. doing_stop c.requires.0.planned c.requires.1 (special_room c.requires.0.planned c.requires.1) (c.loop-placed.invariant.0.on whole d) c.next_live.ensures.0 _ c.next_live.ensures.1 (none_left _ c.in_default.not-Some) c.loop-placed-test.true }
 
 pub shape_of-marks : goal.shape_of-marks
 shape_of-marks g c = (c.loop-placed.invariant.0.on c.requires.2.whole c.requires.2.doing).size ∙ sym c.requires.0.flags_length
@@ -50,3 +51,9 @@ shape_of-order g c = c.loop-placed.invariant.1
 
 pub returns : goal.returns
 returns g c = record { end = λ whole d. doing_end c.requires.0.planned c.requires.1 (special_room c.requires.0.planned c.requires.1) (c.loop-placed.invariant.0.on whole d) c.loop-placed-test.false }
+
+pub overflow_add-placed : goal.overflow_add-placed
+overflow_add-placed g c = let f = plan_facts c.requires.0.planned in let l = c.loop-placed-test.true in omega (arith, f.n_most, l)
+
+pub loop-placed-smaller : goal.loop-placed-smaller
+loop-placed-smaller g c = let l = c.loop-placed-test.true in omega (arith, l)
