@@ -68,13 +68,13 @@ impl<'a> Table for Held<'a> {
 // ERUN n e seed c wordcap searchcap poscap OPS, EBULK n e seed c wordcap searchcap poscap start count
 pub fn command(form: Form, fields: Fields, out: &mut Out) {
     match asked_by(form, fields) {
-        Ok(asked) => held(asked, out),
+        Ok(asked) => in_buffers(asked, out),
         Err(refused) => write!(out, "{refused}"),
     }
 }
 
 // The run in the first n slots of large buffers.
-fn held(asked: Asked, out: &mut Out) {
+fn in_buffers(asked: Asked, out: &mut Out) {
     let mut words = word_buffer();
     let mut flags = io::large_buffer();
     let n = asked.setting.n as usize;
