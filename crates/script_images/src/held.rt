@@ -12,13 +12,13 @@ use text::out::Out;
 // The answer to a command.
 pub fn command(verb: Verb, fields: Fields, out: &mut Out) {
     match asked_by(verb, fields) {
-        Ok(asked) => held(asked, out),
+        Ok(asked) => in_buffers(asked, out),
         Err(refused) => write!(out, "{refused}"),
     }
 }
 
 // The task in the first n slots of large buffers.
-fn held(asked: Asked, out: &mut Out) {
+fn in_buffers(asked: Asked, out: &mut Out) {
     let mut words = word_buffer();
     let mut flags = io::large_buffer();
     let n = asked.opening.n as usize;

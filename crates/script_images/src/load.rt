@@ -3,7 +3,7 @@ use crate::check::put_kept;
 use image_calls::calls::{LoadRefusal, Loaded, load_image};
 use refusal::Name;
 use script::print::Refusal;
-use script_funnel::runs::{Held, put_digest};
+use script_funnel::runs::Held;
 use script_tasks::bytes::spell;
 use text::buffers::image_buffer;
 use text::out::Out;
@@ -17,11 +17,11 @@ pub fn run(image: &[u8], table: &mut Held, out: &mut Out) {
     match loaded(image, table) {
         Ok(loaded) => {
             write!(out, "OK {} {} {}", loaded.label_at, loaded.label_len, loaded.table.count);
-            put_digest(table.words, table.flags, out);
+            table.put_digest(out);
         }
         Err(refused) => {
             write!(out, "{}", refusal_of(refused));
-            put_kept(is_kept(table.words, table.flags), out);
+            put_kept(is_kept(table), out);
         }
     }
 }
@@ -46,7 +46,11 @@ fn refusal_of(refused: LoadRefusal) -> Refusal {
 }
 
 // Whether a refusal left words and flags as they were.
-fn is_kept(words: &[u64], flags: &[u8]) -> bool {
-    words.iter().enumerate().all(|(slot, word)| *word == before(slot))
-        && flags.iter().all(|flag| *flag == 1)
+fn is_kept(table: &Held) -> bool {
+    let are_before = table
+        .words
+        .iter()
+        .enumerate()
+        .all(|(slot, word)| *word == before(slot));
+    are_before && table.flags.iter().all(|flag| *flag == 1)
 }
