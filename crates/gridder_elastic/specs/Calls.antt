@@ -1,16 +1,12 @@
 -- The exported calls on elastic tables: what each answers and leaves. Assumes nothing.
-use Rattle.std.specs.Prelude.{List, [], ◌≡◌, ℕ, length, replicate}
+use Rattle.std.specs.Prelude.{List, [], ◌≡◌, ℕ, Ok, Err, length, replicate}
 use Rattle.refusal.specs.Table.{number_of, name_of}
 use Rattle.refusal.specs.declared.Name.TheVariants as name
 use Rattle.words.specs.Pick.{pick}
-use Rattle.geometry.specs.declared.config.Gated.{Gated}
-use Rattle.geometry.specs.declared.config.Gated.TheVariants.{Passed, Refused}
-use Rattle.elastic_steps.specs.Insert.{Done, insert_of, insert_report}
-use Rattle.elastic_query.specs.Query.{query_of, query_report}
+use Rattle.geometry.specs.Config.{Gated}
+use Rattle.elastic_steps.specs.Insert.{InsertAnswer, Done, insert_of, insert_report}
+use Rattle.elastic_query.specs.Query.{QueryAnswer, query_of, query_report}
 use Rattle.elastic.specs.State.{gate_of, open_gate, fresh_of}
-use Rattle.elastic_steps.specs.declared.answer.InsertAnswer.{InsertAnswer}
-use Rattle.elastic_steps.specs.declared.answer.InsertAnswer.TheVariants as inserting
-use Rattle.elastic_query.specs.declared.query.QueryAnswer.{QueryAnswer}
 use Rattle.elastic.specs.declared.state.Limits.{Limits}
 use Rattle.elastic.specs.declared.state.State.{State}
 use Rattle.lent.specs.Lent.{words_of, word_count}
@@ -35,8 +31,8 @@ state_gate state words flags answer = call_gate (state_in state) (counts_in stat
 -- ---- query
 
 unfoldable pub query_reply : List ℕ → Gated → QueryAnswer → Reply
-query_reply answer (Refused g) said = reply (number_of (name_of g)) (saying answer [])
-query_reply answer Passed said = reply (query_report said).number (says (query_fields said))
+query_reply answer (Err g) said = reply (number_of (name_of g)) (saying answer [])
+query_reply answer (Ok _) said = reply (query_report said).number (says (query_fields said))
 
 -- "one that holds no state, is STATE ..; then .. the answer block stays as it was"
 unfoldable pub query_call : (state words flags : List ℕ) (identity : ℕ) (answer : List ℕ) → Reply
@@ -49,12 +45,12 @@ query_call state words flags identity answer =
 
 -- an insertion steps the count and a level's; "every refusal leaves state and buffers as on entry"
 unfoldable pub counted_in : List ℕ → InsertAnswer → ℕ → List ℕ → List ℕ
-counted_in state (inserting.Inserted i) count counts = with_counts_in state count counts
-counted_in state (inserting.Refused r) count counts = state
+counted_in state (Ok i) count counts = with_counts_in state count counts
+counted_in state (Err r) count counts = state
 
 unfoldable pub insert_left : (answer state words flags : List ℕ) → Gated → Done → Left
-insert_left answer state words flags (Refused g) d = left (number_of (name_of g)) (saying answer []) state words flags
-insert_left answer state words flags Passed d =
+insert_left answer state words flags (Err g) d = left (number_of (name_of g)) (saying answer []) state words flags
+insert_left answer state words flags (Ok _) d =
     left (insert_report d.answer).number (says (insert_fields d.answer)) (counted_in state d.answer d.st.count d.counts) d.words d.flags
 
 -- words are given and left as the words that the bytes are
@@ -73,9 +69,9 @@ open_blocks_gate n e limits words flags state answer =
 
 -- "Opening zeroes both; that is a fresh table"; a refusal leaves state and buffers as on entry
 unfoldable pub open_left : Gated → (n e seed : ℕ) → Limits → (state words flags answer : List ℕ) → Left
-open_left (Refused g) n e seed limits state words flags answer =
+open_left (Err g) n e seed limits state words flags answer =
     left (number_of (name_of g)) (open_saying (number_of (name_of g)) (length state) answer) state (words_of words) flags
-open_left Passed n e seed limits state words flags answer =
+open_left (Ok _) n e seed limits state words flags answer =
     left 0 (says []) (elastic_block (fresh_of n e seed limits) (replicate 32 0)) (replicate n 0) (replicate n 0)
 
 unfoldable pub open_call : (n e seed : ℕ) → Limits → (state words flags answer : List ℕ) → Left

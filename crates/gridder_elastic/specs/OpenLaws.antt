@@ -1,16 +1,14 @@
 -- Laws of the exported opening of an elastic table. Assumes nothing.
 use mathlib.Core.List.{List, []}
-use Rattle.std.specs.Prelude.{◌≡◌, ℕ, ◌*◌, ◌≤◌, eqb}
+use Rattle.std.specs.Prelude.{◌≡◌, ℕ, ◌*◌, ◌≤◌, eqb, Ok, Err}
 use Rattle.std.proofs.Math.Path.{ap}
 use Rattle.std.proofs.Common.{sym, ◌∙◌, arith, eqb-true}
 use Rattle.std.proofs.Math.ListN.{length, replicate}
 use Rattle.refusal.specs.Table.{number_of, name_of}
 use Rattle.refusal.specs.declared.Gate.{Gate}
-use Rattle.geometry.specs.Config.{maximum}
+use Rattle.geometry.specs.Config.{Gated, maximum}
 use Rattle.geometry.specs.ConfigLaws.{config_gate_facts}
 use Rattle.geometry.specs.Elastic.{levels_of}
-use Rattle.geometry.specs.declared.config.Gated.{Gated}
-use Rattle.geometry.specs.declared.config.Gated.TheVariants.{Passed, Refused}
 use Rattle.elastic.specs.State.{setting_gate, open_gate, fresh_of}
 use Rattle.elastic.specs.StateLaws.{both_yes, demand_facts}
 use Rattle.elastic.specs.declared.state.Limits.{Limits}
@@ -33,7 +31,7 @@ pub record Room (n words flags state answer : ℕ) : Type 0 where
   pub state_right : state ≡ state_length
   pub answer_right : answer ≡ answer_length
 
-pub room : (n e : ℕ) (limits : Limits) (words flags state answer : ℕ) → open_blocks_gate n e limits words flags state answer ≡ Passed → Room n words flags state answer
+pub room : (n e : ℕ) (limits : Limits) (words flags state answer : ℕ) → open_blocks_gate n e limits words flags state answer ≡ Ok tt → Room n words flags state answer
 unfolding open_blocks_gate open_gate setting_gate
 room n e limits words flags state answer h =
     let a = block_facts _ _ _ h in
@@ -56,11 +54,11 @@ module _ (n e seed : ℕ) (limits : Limits) (state words flags answer : List ℕ
   gate_of_lem : open_blocks_gate n e limits (word_count (length words)) (length flags) (length state) (length answer) ≡ g
   gate_of_lem = sym (is ∙ rw w)
 
-  pub open_room : g ≡ Passed → Room n (word_count (length words)) (length flags) (length state) (length answer)
+  pub open_room : g ≡ Ok tt → Room n (word_count (length words)) (length flags) (length state) (length answer)
   open_room p = room n e limits (word_count (length words)) (length flags) (length state) (length answer) (gate_of_lem ∙ p)
 
   module _ (number : ℕ) (answer' : List ℕ) where
-    pub opens_refused : (x : Gate) → g ≡ Refused x → reply number answer' ≡ reply (number_of (name_of x)) (open_saying (number_of (name_of x)) (length state) answer)
+    pub opens_refused : (x : Gate) → g ≡ Err x → reply number answer' ≡ reply (number_of (name_of x)) (open_saying (number_of (name_of x)) (length state) answer)
         → left number answer' state (words_of words) flags ≡ open_call n e seed limits state words flags answer
     unfolding open_call open_left
     opens_refused x p h =
@@ -68,7 +66,7 @@ module _ (n e seed : ℕ) (limits : Limits) (state words flags answer : List ℕ
         let a : answer' ≡ open_saying (number_of (name_of x)) (length state) answer = ap (λ (r : Reply). r.answer) h in
         rw (m, a) (sym (rw (gate_of_lem, p)))
 
-    pub opens_passed : (st : State) (state' words' flags' : List ℕ) → g ≡ Passed → st ≡ fresh_of n e seed limits → Fresh st words flags answer number state' words' flags' answer'
+    pub opens_passed : (st : State) (state' words' flags' : List ℕ) → g ≡ Ok tt → st ≡ fresh_of n e seed limits → Fresh st words flags answer number state' words' flags' answer'
         → left number answer' state' (words_of words') flags' ≡ open_call n e seed limits state words flags answer
     unfolding open_call open_left
     opens_passed st state' words' flags' p s f =

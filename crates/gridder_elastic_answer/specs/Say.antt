@@ -1,15 +1,12 @@
 -- What the calls on elastic tables say in the answer block: the values of the base's report, each at its offset. Assumes nothing.
-use Rattle.std.specs.Prelude.{List, [], ◌∷◌, ◌++◌, ℕ}
-use Rattle.elastic_steps.specs.Insert.{case_values, insert_report}
-use Rattle.elastic_query.specs.Query.{query_report}
+use Rattle.std.specs.Prelude.{List, [], ◌∷◌, ◌++◌, ℕ, Ok, Err}
+use Rattle.elastic_steps.specs.Insert.{InsertAnswer, case_values, insert_report}
+use Rattle.elastic_query.specs.Query.{QueryAnswer, query_report}
+use Rattle.elastic_query.specs.declared.query.QueryRefusal.TheVariants as querying
 use Rattle.elastic_steps.specs.declared.answer.Case.{Case}
 use Rattle.elastic_steps.specs.declared.answer.Insertion.{Insertion}
-use Rattle.elastic_steps.specs.declared.answer.InsertAnswer.{InsertAnswer}
-use Rattle.elastic_steps.specs.declared.answer.InsertAnswer.TheVariants as inserting
 use Rattle.elastic_steps.specs.declared.answer.InsertRefusal.{InsertRefusal}
 use Rattle.elastic_steps.specs.declared.answer.InsertRefusal.TheVariants as refusal
-use Rattle.elastic_query.specs.declared.query.QueryAnswer.{QueryAnswer}
-use Rattle.elastic_query.specs.declared.query.QueryAnswer.TheVariants as querying
 use Rattle.gridder_answer.specs.Answer.{Field, field, probes_at, kind_at, level_at, bucket_at, within_at, slot_at, words_at}
 
 -- ---- the offsets, beside those of funnel tables
@@ -60,18 +57,18 @@ refused_at refusal.Search = []
 refused_at refusal.Position = []
 
 abbrev pub insert_places : InsertAnswer → List ℕ
-insert_places (inserting.Inserted i) = case_at ++ place_at
-insert_places (inserting.Refused r) = refused_at r
+insert_places (Ok i) = case_at ++ place_at
+insert_places (Err r) = refused_at r
 
 unfoldable pub insert_fields : InsertAnswer → List Field
 insert_fields a = fields_at (insert_places a) (insert_report a).values
 
 -- position, global slot, mapped, gap and words
 abbrev pub query_places : QueryAnswer → List ℕ
-query_places (querying.Found q) = position_at ∷ slot_at ∷ mapped_at ∷ gap_at ∷ words_at ∷ []
-query_places (querying.Range r) = words_at ∷ []
-query_places querying.Absent = []
-query_places (querying.Refused g) = []
+query_places (Ok q) = position_at ∷ slot_at ∷ mapped_at ∷ gap_at ∷ words_at ∷ []
+query_places (Err (querying.Range r)) = words_at ∷ []
+query_places (Err querying.Absent) = []
+query_places (Err (querying.Gate g)) = []
 
 unfoldable pub query_fields : QueryAnswer → List Field
 query_fields a = fields_at (query_places a) (query_report a).values

@@ -1,21 +1,17 @@
 -- Laws of what the calls on elastic tables say. Assumes nothing.
-use Rattle.std.specs.Prelude.{List, [], ◌∷◌, ◌++◌, ◌≡◌, refl, ℕ, length, replicate}
+use Rattle.std.specs.Prelude.{List, [], ◌∷◌, ◌++◌, ◌≡◌, refl, ℕ, length, replicate, Ok, Err}
 use Rattle.std.proofs.Common.{ap, ◌∙◌}
 use Rattle.std.proofs.Math.Path.{sym}
 use Rattle.std.proofs.lemmas.List.{length-replicate}
 use Rattle.std.proofs.lemmas.List.Edits.{sets}
 use Rattle.words.specs.Bytes.{bytes_of}
-use Rattle.elastic_steps.specs.Insert.{refusal_report, insert_report}
-use Rattle.elastic_query.specs.Query.{query_report}
+use Rattle.elastic_steps.specs.Insert.{InsertAnswer, refusal_report, insert_report}
+use Rattle.elastic_query.specs.Query.{QueryAnswer, query_report}
 use Rattle.elastic_steps.specs.declared.answer.Case.{Case}
 use Rattle.elastic_steps.specs.declared.answer.Case.TheVariants.{Batch0, Case1, Case2, Case3}
 use Rattle.elastic_steps.specs.declared.answer.Insertion.{Insertion}
-use Rattle.elastic_steps.specs.declared.answer.InsertAnswer.{InsertAnswer}
-use Rattle.elastic_steps.specs.declared.answer.InsertAnswer.TheVariants as inserting
 use Rattle.elastic_steps.specs.declared.answer.InsertRefusal.{InsertRefusal}
 use Rattle.elastic_query.specs.declared.query.Finding.{Finding}
-use Rattle.elastic_query.specs.declared.query.QueryAnswer.{QueryAnswer}
-use Rattle.elastic_query.specs.declared.query.QueryAnswer.TheVariants as querying
 use Rattle.gridder_answer.specs.Answer.{answer_length, Field, field, stored, says, reply}
 use Rattle.gridder_elastic_answer.specs.Say.{fields_at, refused_at, insert_fields, query_fields, case_fields, five_fields, inserted_fields}
 
@@ -69,24 +65,24 @@ unfolding inserted_fields
 inserted_stored b cased after i e f = f ∙ rw e (sym (stored_append b (case_fields i.case) _))
 
 -- the parts are the values of the base's report
-inserted_fields_lem : (i : Insertion) → inserted_fields i ≡ insert_fields (inserting.Inserted i)
+inserted_fields_lem : (i : Insertion) → inserted_fields i ≡ insert_fields (Ok i)
 unfolding inserted_fields insert_fields insert_report case_fields fields_at
 inserted_fields_lem i = go i.case refl
   where
-    go : (c : Case) → i.case ≡ c → inserted_fields i ≡ insert_fields (inserting.Inserted i)
+    go : (c : Case) → i.case ≡ c → inserted_fields i ≡ insert_fields (Ok i)
     go (Batch0 level) h = rw h
     go (Case1 batch current next free free_next budget) h = rw h
     go (Case2 batch current next free free_next) h = rw h
     go (Case3 batch current next free free_next) h = rw h
 
 module _ (said : InsertAnswer) (n : ℕ) (zeros a : List ℕ) (length_is : n ≡ answer_length) (cleared : zeros ≡ replicate n 0) where
-  pub insert_says : (i : Insertion) → said ≡ inserting.Inserted i → a ≡ stored zeros (inserted_fields i) → reply 0 a ≡ reply (insert_report said).number (says (insert_fields said))
+  pub insert_says : (i : Insertion) → said ≡ Ok i → a ≡ stored zeros (inserted_fields i) → reply 0 a ≡ reply (insert_report said).number (says (insert_fields said))
   unfolding insert_report says
   insert_says i h e =
-      let b : a ≡ stored (replicate answer_length 0) (insert_fields (inserting.Inserted i)) = e ∙ rw (cleared, length_is, inserted_fields_lem i) in
+      let b : a ≡ stored (replicate answer_length 0) (insert_fields (Ok i)) = e ∙ rw (cleared, length_is, inserted_fields_lem i) in
       rw (h, b)
 
-  pub insert_refuses : (r : InsertRefusal) (number : ℕ) → said ≡ inserting.Refused r
+  pub insert_refuses : (r : InsertRefusal) (number : ℕ) → said ≡ Err r
       → reply number a ≡ reply (refusal_report r).number (says (fields_at (refused_at r) (refusal_report r).values)) → reply number a ≡ reply (insert_report said).number (says (insert_fields said))
   unfolding insert_report insert_fields
   insert_refuses r number h e = e ∙ sym (rw h)
@@ -121,6 +117,6 @@ module _ (said : QueryAnswer) (n : ℕ) (zeros a : List ℕ) (length_is : n ≡ 
 
 -- what each answer of a query says
 pub query_found : (q : Finding)
-    → query_fields (querying.Found q) ≡ field 72 q.position ∷ field 40 q.global_slot.0 ∷ field 80 q.mapped ∷ field 88 q.gap ∷ field 48 q.words ∷ []
+    → query_fields (Ok q) ≡ field 72 q.position ∷ field 40 q.global_slot.0 ∷ field 80 q.mapped ∷ field 88 q.gap ∷ field 48 q.words ∷ []
 unfolding query_fields query_report fields_at
 query_found q = refl

@@ -1,13 +1,13 @@
 // What the calls on elastic tables say, in the answer block of `gridder_answer` (see lib.rt for the offsets).
-ghost use Rattle.std.specs.Prelude.{◌≡◌, length, replicate};
+ghost use Rattle.std.specs.Prelude.{◌≡◌, Err, replicate};
 ghost use Rattle.elastic_steps.specs.Insert.{refusal_report, insert_report};
 ghost use Rattle.elastic_query.specs.Query.{query_report};
 ghost use Rattle.gridder_answer.specs.Answer.{stored, says, reply};
 ghost use Rattle.gridder_elastic_answer.specs.Say.{fields_at, refused_at, five_fields, case_fields, inserted_fields, insert_fields, query_fields};
 
-use elastic_query::query::QueryAnswer;
-use elastic_steps::answer::{Case, InsertAnswer, InsertRefusal, Insertion};
-use gridder_answer::answer::{LEVEL, SLOT, WITHIN, WORDS};
+use elastic_query::query::{Finding, QueryRefusal};
+use elastic_steps::answer::{Case, InsertRefusal, Insertion};
+use gridder_answer::answer::{ANSWER_LENGTH, LEVEL, SLOT, WITHIN, WORDS};
 use refusal::{Name, gate_name, number};
 use words::bytes::write64;
 use words::clear::clear_bytes;
@@ -32,28 +32,25 @@ const FREE_NEXT: usize = 104;
 const BUDGET: usize = 112;
 
 // What an insertion is answered.
-pub fn say_insert(answer: &mut [u8], said: InsertAnswer) -> u64
-    requires { length answer.old ≡ 128 }
+pub fn say_insert(answer: &mut [u8; ANSWER_LENGTH], said: Result<Insertion, InsertRefusal>) -> u64
     ensures { reply result answer.new ≡ reply (insert_report said).number (says (insert_fields said)) }
 {
     clear_bytes(answer);
     match said {
-        InsertAnswer::Inserted(insertion) => {
+        Ok(insertion) => {
             say_inserted(answer, insertion);
             0
         }
-        InsertAnswer::Refused(refusal) => say_refusal(answer, refusal),
+        Err(refusal) => say_refusal(answer, refusal),
     }
 }
 
 // How an identity went in, over what the block holds.
-fn say_inserted(answer: &mut [u8], insertion: Insertion)
-    requires { length answer.old ≡ 128 }
+fn say_inserted(answer: &mut [u8; ANSWER_LENGTH], insertion: Insertion)
     ensures { answer.new ≡ stored answer.old (inserted_fields insertion) }
 {
-    let case = insertion.case;
     let location = insertion.location;
-    say_case(answer, case);
+    say_case(answer, insertion.case);
     write64(answer, LEVEL, location.level);
     write64(answer, WITHIN, location.slot_in_level.0);
     write64(answer, SLOT, location.global_slot.0);
@@ -62,47 +59,41 @@ fn say_inserted(answer: &mut [u8], insertion: Insertion)
 }
 
 // The rule that placed an identity, over what the block holds.
-fn say_case(answer: &mut [u8], case: Case)
-    requires { length answer.old ≡ 128 }
+fn say_case(answer: &mut [u8; ANSWER_LENGTH], case: Case)
     ensures { answer.new ≡ stored answer.old (case_fields case) }
 {
     match case {
-        Case::Batch0 { level: _ } => {
-            say_five(answer, 0, 0, 0, 0, 0);
-        }
+        Case::Batch0 { .. } => say_five(answer, 0, 0, 0, 0, 0),
         Case::Case1 {
             batch,
-            current_level: _,
-            next_level: _,
             free_current,
             free_next,
             budget,
-        } => {
-            say_five(answer, 1, batch, free_current, free_next, budget);
-        }
+            ..
+        } => say_five(answer, 1, batch, free_current, free_next, budget),
         Case::Case2 {
             batch,
-            current_level: _,
-            next_level: _,
             free_current,
             free_next,
-        } => {
-            say_five(answer, 2, batch, free_current, free_next, 0);
-        }
+            ..
+        } => say_five(answer, 2, batch, free_current, free_next, 0),
         Case::Case3 {
             batch,
-            current_level: _,
-            next_level: _,
             free_current,
             free_next,
-        } => {
-            say_five(answer, 3, batch, free_current, free_next, 0);
-        }
+            ..
+        } => say_five(answer, 3, batch, free_current, free_next, 0),
     }
 }
 
-fn say_five(answer: &mut [u8], case: u64, batch: u64, free: u64, next_free: u64, budget: u64)
-    requires { length answer.old ≡ 128 }
+fn say_five(
+    answer: &mut [u8; ANSWER_LENGTH],
+    case: u64,
+    batch: u64,
+    free: u64,
+    next_free: u64,
+    budget: u64,
+)
     ensures { answer.new ≡ stored answer.old (five_fields case batch free next_free budget) }
 {
     write64(answer, CASE, case);
@@ -113,7 +104,7 @@ fn say_five(answer: &mut [u8], case: u64, batch: u64, free: u64, next_free: u64,
 }
 
 // Why an insertion is refused, in a block of zeros.
-fn say_refusal(answer: &mut [u8], refusal: InsertRefusal) -> u64
+fn say_refusal(answer: &mut [u8; ANSWER_LENGTH], refusal: InsertRefusal) -> u64
     requires { answer.old ≡ replicate 128 0 }
     ensures { reply result answer.new ≡ reply (refusal_report refusal).number (says (fields_at (refused_at refusal) (refusal_report refusal).values)) }
 {
@@ -135,13 +126,12 @@ fn say_refusal(answer: &mut [u8], refusal: InsertRefusal) -> u64
 }
 
 // What a query found.
-pub fn say_query(answer: &mut [u8], said: QueryAnswer) -> u64
-    requires { length answer.old ≡ 128 }
+pub fn say_query(answer: &mut [u8; ANSWER_LENGTH], said: Result<Finding, QueryRefusal>) -> u64
     ensures { reply result answer.new ≡ reply (query_report said).number (says (query_fields said)) }
 {
     clear_bytes(answer);
     match said {
-        QueryAnswer::Found(found) => {
+        Ok(found) => {
             write64(answer, POSITION, found.position);
             write64(answer, SLOT, found.global_slot.0);
             write64(answer, MAPPED, found.mapped);
@@ -149,11 +139,21 @@ pub fn say_query(answer: &mut [u8], said: QueryAnswer) -> u64
             write64(answer, WORDS, found.words);
             0
         }
-        QueryAnswer::Range(range) => {
+        Err(refusal) => say_unfound(answer, refusal),
+    }
+}
+
+// Why a query finds nothing, in a block of zeros.
+fn say_unfound(answer: &mut [u8; ANSWER_LENGTH], refusal: QueryRefusal) -> u64
+    requires { answer.old ≡ replicate 128 0 }
+    ensures { reply result answer.new ≡ reply (query_report (Err refusal)).number (says (query_fields (Err refusal))) }
+{
+    match refusal {
+        QueryRefusal::Range(range) => {
             write64(answer, WORDS, range.words);
             number(Name::Range)
         }
-        QueryAnswer::Absent => number(Name::Absent),
-        QueryAnswer::Refused(g) => number(gate_name(g)),
+        QueryRefusal::Absent => number(Name::Absent),
+        QueryRefusal::Gate(g) => number(gate_name(g)),
     }
 }

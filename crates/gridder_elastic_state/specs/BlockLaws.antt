@@ -7,7 +7,7 @@ use Rattle.words.specs.Bytes.{num_at}
 use Rattle.elastic.specs.declared.state.State.{State}
 use Rattle.gridder_state.specs.BlockLaws.{written, written_long, written_word, written_counts}
 use Rattle.gridder_state.specs.State.{state_length}
-use Rattle.gridder_elastic_state.specs.State.{elastic_kind, levels_at, holds_elastic, state_in, counts_in, state_words, elastic_block}
+use Rattle.gridder_elastic_state.specs.State.{elastic_kind, levels_at, holds_elastic, limits_in, state_in, counts_in, state_words, elastic_block}
 use Rattle.gridder_state.specs.StateLaws.{holds_kind_lem}
 
 -- numbers that fit their words
@@ -37,7 +37,7 @@ module _ (st : State) (counts : List ℕ) (fits : Words st counts) (zeros : List
   read_counts = written_counts zeros (state_words st) levels_at counts 32 long (omega arith) (omega arith) fits.all fits.each
 
   read_state : state_in block ≡ st
-  unfolding state_in
+  unfolding state_in limits_in
   read_state =
       let a : st.e < 2 ^ 64 = omega (arith, fits.e) in
       rw (

@@ -1,7 +1,8 @@
 -- The state block of an elastic table: 2,048 bytes, each number a little-endian word of eight bytes. Assumes nothing.
-use Rattle.std.specs.Prelude.{Bool, List, [], ◌∷◌, ℕ, replicate}
+use Rattle.std.specs.Prelude.{Bool, true, false, ◌≡◌, Option, Some, None, List, [], ◌∷◌, ℕ, replicate}
 use Rattle.std.proofs.lemmas.List.Edits.{sets}
 use Rattle.words.specs.Bytes.{num_at}
+use Rattle.elastic.specs.declared.state.Limits.{Limits}
 use Rattle.elastic.specs.declared.state.State.{State}
 use Rattle.lent.specs.Lent.{words_from, lent}
 use Rattle.gridder_state.specs.State.{state_length, count_at, holds_kind, with_count_in}
@@ -18,6 +19,16 @@ levels_at = 88
 abbrev pub holds_elastic : List ℕ → Bool
 holds_elastic b = holds_kind elastic_kind b
 
+-- the limits in a block
+unfoldable pub limits_in : List ℕ → Limits
+limits_in b =
+    record {
+      probe_budget_c = num_at b 64 8;
+      range_word_cap = num_at b 32 8;
+      uniform_search_probe_cap = num_at b 72 8;
+      hit_query_position_cap = num_at b 80 8;
+    }
+
 -- the state in a block
 unfoldable pub state_in : List ℕ → State
 state_in b =
@@ -25,13 +36,7 @@ state_in b =
       n = num_at b 8 8;
       e = num_at b 16 8;
       seed = num_at b 24 8;
-      limits =
-          record {
-            probe_budget_c = num_at b 64 8;
-            range_word_cap = num_at b 32 8;
-            uniform_search_probe_cap = num_at b 72 8;
-            hit_query_position_cap = num_at b 80 8;
-          };
+      limits = limits_in b;
       plan = record { levels = num_at b 56 8; maximum = num_at b 48 8 };
       count = num_at b count_at 8;
     }
@@ -39,6 +44,11 @@ state_in b =
 -- the counts of its levels
 unfoldable pub counts_in : List ℕ → List ℕ
 counts_in b = words_from b levels_at 32
+
+-- what is read of a block: the state that it holds with the counts of its levels, or none, which leaves the counts that are lent
+unfoldable pub Reads : (state before : List ℕ) → Option State → (counts : List ℕ) → Type 0
+Reads state before None counts = (holds_elastic state ≡ false) × (counts ≡ before)
+Reads state before (Some st) counts = (holds_elastic state ≡ true) × (st ≡ state_in state) × (counts ≡ counts_in state)
 
 -- the words of a state, in the order of a block
 abbrev pub state_words : State → List ℕ

@@ -1,7 +1,6 @@
 // The state block of an elastic table: where its numbers lie in it (see lib.rt), read and written.
-ghost use Rattle.std.specs.Prelude.{true, ◌≡◌, length};
-ghost use Rattle.lent.specs.Lent.{words_from};
-ghost use Rattle.gridder_elastic_state.specs.State.{holds_elastic, state_in, counts_in, elastic_block, with_counts_in};
+ghost use Rattle.std.specs.Prelude.{◌≡◌, length};
+ghost use Rattle.gridder_elastic_state.specs.State.{holds_elastic, Reads, limits_in, counts_in, elastic_block, with_counts_in};
 
 use elastic::state::{Limits, State};
 use geometry::elastic::ElasticPlan;
@@ -19,57 +18,51 @@ const LEVELS: usize = 88;
 pub fn holds_elastic(state: &[u8]) -> bool
     ensures { result ≡ holds_elastic state.now }
 {
-    if state.len() != STATE_LENGTH {
-        return false;
-    }
-    if read64(state, 0) != ELASTIC_KIND {
-        return false;
-    }
-    read64(state, 16) < 4294967296
+    state.len() == STATE_LENGTH
+        && read64(state, 0) == ELASTIC_KIND
+        && read64(state, 16) < 4294967296
 }
 
-// The state that a block holds.
-pub fn state_in(state: &[u8]) -> State
-    requires { holds_elastic state.now ≡ true }
-    ensures { result ≡ state_in state.now }
+// The state that a block holds, with the counts of the table's levels into an array; None where it holds none.
+pub fn read_state(state: &[u8], counts: &mut [u64; 32]) -> Option<State>
+    ensures { Reads state.now counts.old result counts.new }
 {
-    let e = read64(state, 16);
-    let limits = Limits {
-        probe_budget_c: read64(state, 64),
-        range_word_cap: read64(state, 32),
-        uniform_search_probe_cap: read64(state, 72),
-        hit_query_position_cap: read64(state, 80),
-    };
-    let plan = ElasticPlan {
-        levels: read64(state, 56),
-        maximum: read64(state, 48),
-    };
-    State {
-        n: read64(state, 8),
-        e: e as u32,
-        seed: read64(state, 24),
-        limits,
-        plan,
-        count: read64(state, 40),
+    if !holds_elastic(state) {
+        return None;
+    }
+    let block = state.as_array()?;
+    read_counts(block, counts);
+    Some(State {
+        n: read64(block, 8),
+        e: read64(block, 16) as u32,
+        seed: read64(block, 24),
+        limits: limits_in(block),
+        plan: ElasticPlan {
+            levels: read64(block, 56),
+            maximum: read64(block, 48),
+        },
+        count: read64(block, 40),
+    })
+}
+
+// The limits in a block.
+fn limits_in(block: &[u8; STATE_LENGTH]) -> Limits
+    ensures { result ≡ limits_in block.now }
+{
+    Limits {
+        probe_budget_c: read64(block, 64),
+        range_word_cap: read64(block, 32),
+        uniform_search_probe_cap: read64(block, 72),
+        hit_query_position_cap: read64(block, 80),
     }
 }
 
 // The counts of a table's levels, into an array.
-pub fn read_counts(state: &[u8], counts: &mut [u64; 32])
-    requires { length state.now ≡ 2048 }
-    ensures { counts.new ≡ counts_in state.now }
+fn read_counts(block: &[u8; STATE_LENGTH], counts: &mut [u64; 32])
+    ensures { counts.new ≡ counts_in block.now }
 {
-    fill_counts(state, counts);
-}
-
-fn fill_counts(state: &[u8], counts: &mut [u64])
-    requires { (length state.now ≡ 2048) × (length counts.old ≡ 32) }
-    ensures { counts.new ≡ words_from state.now 88 32 }
-{
-    let mut i = 0;
-    while i < 32 {
-        counts[i] = read64(state, LEVELS + i * 8);
-        i += 1;
+    for (i, count) in counts.iter_mut().enumerate() {
+        *count = read64(block, LEVELS + i * 8);
     }
 }
 
@@ -83,7 +76,7 @@ pub fn write_state(state: &mut [u8], st: State, counts: &[u64; 32])
     let header = [
         ELASTIC_KIND,
         st.n,
-        wide(st.e),
+        u64::from(st.e),
         st.seed,
         limits.range_word_cap,
         st.count,
@@ -96,12 +89,6 @@ pub fn write_state(state: &mut [u8], st: State, counts: &[u64; 32])
     clear_bytes(state);
     write_words(state, 0, &header);
     write_words(state, LEVELS, counts);
-}
-
-fn wide(x: u32) -> u64
-    ensures { result ≡ x }
-{
-    x as u64
 }
 
 // The count and the counts of the levels of a table that a block holds, after an insertion.

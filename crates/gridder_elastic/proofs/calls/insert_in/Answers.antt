@@ -1,47 +1,30 @@
 -- `gridder_elastic::calls::insert_in` meets its contract. By how the table was entered. Assumes nothing.
+use mathlib.Core.Path.{◌≡◌, sym, ◌∙◌}
 use Rattle.gridder_state.specs.StateLaws.{holds_facts}
-use Rattle.gridder_elastic.specs.EnterLaws.{call_ready}
-use Rattle.gridder_elastic.specs.CallLaws.{insert_refused, insert_open}
+use Rattle.gridder_elastic.specs.Calls.{counted_in}
+use Rattle.gridder_elastic.specs.EnterLaws.{entry_open, call_ready}
+use Rattle.gridder_elastic.specs.CallLaws.{insert_refused, insert_open, counted_inserted, counted_refused}
 use Rattle.gridder_elastic.proofs.calls.insert_in.Goals as goal
+use Rattle.gridder_elastic.proofs.calls.insert_in.Goals.{then-is_ok, else-is_ok}
 
 pub place-done-requires : goal.place-done-requires
-place-done-requires c =
-    let c1 = c in
-    let a = c1.args in
-    let e = c.enter.ensures in
-    let t = c.in-Open.is in
-    (call_ready _ a.words.now a.flags.now a.answer.now _ _ e _ t).valid
+place-done-requires c = (call_ready _ c.args.words.now c.args.flags.now c.args.answer.now _ _ c.enter.ensures _ c.in-Ok.is).valid
 
-pub count_insertion-requires : goal.count_insertion-requires
-count_insertion-requires c =
-    let c1 = c in
-    let c2 = c in
-    let h = c2.requires in
-    (holds_facts _ _ h).long
+pub write_counts-requires : goal.write_counts-requires
+write_counts-requires c = (holds_facts _ _ (entry_open _ c.args.words.now c.args.flags.now c.args.answer.now _ _ c.enter.ensures _ c.in-Ok.is).held).long
 
-pub say_insert-requires : goal.say_insert-requires
-say_insert-requires c =
-    let c1 = c in
-    let c2 = c in
-    let a = c2.args in
-    let e = c2.enter.ensures in
-    let t = c1.in-Open.is in
-    (call_ready _ a.words.now a.flags.now a.answer.now _ _ e _ t).room
+pub unwrap-requires : goal.unwrap-requires
+unwrap-requires c =
+    c.as_mut_array.ensures.variant.1 (call_ready _ c.args.words.now c.args.flags.now c.args.answer.now _ _ c.enter.ensures _ c.in-Ok.is).room
 
-pub returns-in-Refused : goal.returns-in-Refused
-returns-in-Refused c =
-    let c1 = c in
-    let e = c.enter.ensures in
-    let h = c1.requires in
-    insert_refused _ _ _ _ _ _ e h _ _ _ _ c.in-Refused.is c.say_gate.ensures
+pub returns-in-Err : goal.returns-in-Err
+returns-in-Err c = insert_refused _ _ _ _ _ _ c.enter.ensures _ _ _ _ c.in-Err.is c.refuse.ensures
 
-pub returns-in-Open : goal.returns-in-Open
-returns-in-Open c =
-    let c1 = c in
-    let c2 = c in
-    let e = c2.enter.ensures in
-    let h = c2.requires in
-    let t = c2.in-Open.is in
-    let p = c1.place-done in
-    let s = c.count_insertion.ensures in
-    insert_open _ _ _ _ _ _ e h _ _ _ _ t _ _ _ _ _ _ _ p.auto.lent p.ensures s c.say_insert.ensures
+pub returns-after-is_ok : goal.returns-after-is_ok
+returns-after-is_ok c =
+    let d = c.place-done in
+    let counted : c.if-is_ok.state ≡ counted_in c.args.state.now d.result.answer d.result.st.count d.new.counts = elim c.if-is_ok.branch [
+      | then-is_ok w ↦ counted_inserted _ _ _ _ _ (sym c.is_ok.ensures.value ∙ w.if-is_ok.true) (w.state-is ∙ w.write_counts.ensures)
+      | else-is_ok w ↦ w.state-is ∙ counted_refused _ _ _ _ (sym c.is_ok.ensures.value ∙ w.if-is_ok.false)
+    ] in
+    insert_open _ _ _ _ _ _ c.enter.ensures _ _ _ _ c.in-Ok.is _ _ _ _ _ _ d.auto.words d.ensures counted c.say_insert.ensures

@@ -3,10 +3,10 @@ use Rattle.gridder_elastic_answer.specs.SayLaws.{zeros_are, insert_says, insert_
 use Rattle.gridder_elastic_answer.proofs.say.say_insert.Goals as goal
 
 pub say_refusal-requires : goal.say_refusal-requires
-say_refusal-requires c = zeros_are _ _ c.requires c.clear_bytes.ensures
+say_refusal-requires c = zeros_are _ _ c.told-answer c.clear_bytes.ensures
 
-pub returns-in-Inserted : goal.returns-in-Inserted
-returns-in-Inserted c = insert_says _ _ _ _ c.requires c.clear_bytes.ensures _ c.in-Inserted.is c.say_inserted.ensures
+pub returns-in-Ok : goal.returns-in-Ok
+returns-in-Ok c = insert_says _ _ _ _ c.told-answer c.clear_bytes.ensures _ c.in-Ok.is c.say_inserted.ensures
 
-pub returns-in-Refused : goal.returns-in-Refused
-returns-in-Refused c = insert_refuses _ _ _ _ c.requires c.clear_bytes.ensures _ _ c.in-Refused.is c.say_refusal.ensures
+pub returns-in-Err : goal.returns-in-Err
+returns-in-Err c = insert_refuses _ _ _ _ c.told-answer c.clear_bytes.ensures _ _ c.in-Err.is c.say_refusal.ensures

@@ -1,0 +1,28 @@
+-- `gridder_elastic_state::state::read_state` meets its contract. A block that holds a table has its length, and its e fits. Assumes nothing.
+use mathlib.Core.Path.{refl, ap, sym, ◌∙◌}
+use native.Mathlib.Omega.{arith}
+use Rattle.gridder_elastic_state.specs.State.{Reads, state_in, counts_in}
+use Rattle.gridder_state.specs.StateLaws.{holds_facts}
+use Rattle.gridder_elastic_state.proofs.state.read_state.Goals as goal
+
+pub returns-then-not-holds_elastic : goal.returns-then-not-holds_elastic
+unfolding Reads
+returns-then-not-holds_elastic c = (sym c.holds_elastic.ensures ∙ c.if-not-holds_elastic.true, refl)
+
+pub returns-in_err-block : goal.returns-in_err-block
+returns-in_err-block c =
+    let h = holds_facts _ _ (sym c.holds_elastic.ensures ∙ c.if-not-holds_elastic.false) in
+    let n = c.in_err-block.ensures.cases in
+    absurd (n h.long)
+
+pub overflow_cast-result : goal.overflow_cast-result
+overflow_cast-result c =
+    let h = holds_facts _ _ (sym c.holds_elastic.ensures ∙ c.if-not-holds_elastic.false) in
+    let e = rw c.in_ok-block.ensures.cases.same at c.read64-2.ensures in
+    omega (arith, h.exponent)
+
+pub returns : goal.returns
+unfolding Reads state_in
+returns c =
+    let same = c.in_ok-block.ensures.cases.same in
+    (sym c.holds_elastic.ensures ∙ c.if-not-holds_elastic.false, rw (← same) (cc), c.read_counts.ensures ∙ ap counts_in same)
