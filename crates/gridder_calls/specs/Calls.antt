@@ -1,17 +1,14 @@
 -- The exported calls on funnel tables: what each answers and leaves. Assumes nothing.
-use Rattle.std.specs.Prelude.{List, [], ℕ, length}
+use Rattle.std.specs.Prelude.{Ok, Err, List, [], ℕ, length}
 use Rattle.refusal.specs.Table.{number_of, name_of}
 use Rattle.refusal.specs.declared.Name.TheVariants as name
 use Rattle.words.specs.Pick.{pick}
-use Rattle.geometry.specs.declared.config.Gated.{Gated}
-use Rattle.geometry.specs.declared.config.Gated.TheVariants.{Passed, Refused}
+use Rattle.geometry.specs.Config.{Gated}
 use Rattle.funnel.specs.Calls.{table_gate, search_report, insertion_report}
-use Rattle.funnel.specs.Insert.{Done, insert_of}
+use Rattle.funnel.specs.Insert.{Insertion, Done, insert_of}
 use Rattle.funnel.specs.Search.{find_of}
 use Rattle.funnel.specs.declared.table.FunnelTable.{FunnelTable}
 use Rattle.funnel.specs.declared.table.Search.{Search}
-use Rattle.funnel.specs.declared.table.Insertion.{Insertion}
-use Rattle.funnel.specs.declared.table.Insertion.TheVariants as insertion
 use Rattle.gridder_answer.specs.Gate.{block_gate}
 use Rattle.gridder_answer.specs.Answer.{answer_length, says, saying, search_fields, insertion_fields, Reply, reply}
 use Rattle.lent.specs.Lent.{words_of, word_count}
@@ -30,8 +27,8 @@ state_gate state words flags answer = call_gate (table_in state) (counts_in stat
 -- ---- search
 
 unfoldable pub search_reply : List ℕ → Gated → Search → Reply
-search_reply answer (Refused g) found = reply (number_of (name_of g)) (saying answer [])
-search_reply answer Passed found = reply (search_report found).number (says (search_fields found))
+search_reply answer (Err g) found = reply (number_of (name_of g)) (saying answer [])
+search_reply answer (Ok _) found = reply (search_report found).number (says (search_fields found))
 
 -- "one that holds no state, is STATE ..; then .. the answer block stays as it was"
 unfoldable pub search_call : (state words flags : List ℕ) (identity : ℕ) (answer : List ℕ) → Reply
@@ -55,15 +52,12 @@ left number answer state words flags = record { number = number; answer = answer
 
 -- an insertion steps the count; "every refusal leaves state and buffers as on entry"
 unfoldable pub counted_in : List ℕ → Insertion → ℕ → List ℕ
-counted_in state (insertion.Inserted probes place) count = with_count_in state count
-counted_in state (insertion.Range refusal) count = state
-counted_in state (insertion.Duplicate probes place) count = state
-counted_in state (insertion.Exhausted probes) count = state
-counted_in state (insertion.Full probes) count = state
+counted_in state (Ok _) count = with_count_in state count
+counted_in state (Err _) count = state
 
 unfoldable pub insert_left : (answer state words flags : List ℕ) → Gated → Done → Left
-insert_left answer state words flags (Refused g) d = left (number_of (name_of g)) (saying answer []) state words flags
-insert_left answer state words flags Passed d =
+insert_left answer state words flags (Err g) d = left (number_of (name_of g)) (saying answer []) state words flags
+insert_left answer state words flags (Ok _) d =
     left (insertion_report d.answer).number (says (insertion_fields d.answer)) (counted_in state d.answer d.table.count) d.words d.flags
 
 -- words are given and left as the words that the bytes are

@@ -1,20 +1,29 @@
-// What every call on a block that holds a funnel table begins with.
-ghost use Rattle.std.specs.Prelude.{true, ◌≡◌};
-ghost use Rattle.gridder_calls.specs.Enter.{Enters};
-ghost use Rattle.gridder_state.specs.State.{holds_funnel};
+// What every call on a state block begins with.
+ghost use Rattle.std.specs.Prelude.{◌≡◌};
+ghost use Rattle.gridder_answer.specs.Answer.{reply};
+ghost use Rattle.gridder_calls.specs.Enter.{Enters, refusal_reply};
+ghost use Rattle.gridder_calls.specs.declared.enter.EnterRefusal.TheVariants.{Refused};
 
 use crate::funnels::call_gate;
 use funnel::table::FunnelTable;
-use geometry::config::Gated;
-use gridder_state::state::{read_counts, table_in};
+use gridder_answer::answer::say_gate;
+use gridder_state::state::read_table;
 use lent::word::word_count;
-use refusal::Gate;
+use refusal::{Gate, Name, number};
 
-// A table whose tests passed, or what they refuse.
+// Why a call ends with its tests: its state block holds no funnel table, or a refusal of the gate.
 #[derive(Clone, Copy)]
-pub enum Entered {
+pub enum EnterRefusal {
+    Unheld,
     Refused(Gate),
-    Open(FunnelTable),
+}
+
+impl From<Gate> for EnterRefusal {
+    ghost from_gives = { λ gate refusal. refusal ≡ Refused gate };
+
+    fn from(gate: Gate) -> EnterRefusal {
+        EnterRefusal::Refused(gate)
+    }
 }
 
 // The table of a block with the counts of its levels, past the tests 1 to 7 and that of the answer block's length. Buffers are given by
@@ -25,15 +34,21 @@ pub fn enter(
     words: usize,
     flags: usize,
     answer: usize,
-) -> Entered
-    requires { holds_funnel state.now ≡ true }
+) -> Result<FunnelTable, EnterRefusal>
     ensures { Enters state.now words flags answer result counts.new }
 {
-    let table = table_in(state);
-    read_counts(state, counts);
+    let table = read_table(state, counts).ok_or(EnterRefusal::Unheld)?;
     let entries = word_count(words as u64);
-    match call_gate(table, counts, entries, flags as u64, answer) {
-        Gated::Refused(g) => Entered::Refused(g),
-        Gated::Passed => Entered::Open(table),
+    call_gate(table, counts, entries, flags as u64, answer)?;
+    Ok(table)
+}
+
+// What a call is answered that ends with its tests: where the block holds no table, the answer block stays.
+pub fn refuse(answer: &mut [u8], refusal: EnterRefusal) -> u64
+    ensures { reply result answer.new ≡ refusal_reply answer.old refusal }
+{
+    match refusal {
+        EnterRefusal::Unheld => number(Name::State),
+        EnterRefusal::Refused(gate) => say_gate(answer, gate),
     }
 }

@@ -1,34 +1,29 @@
-// Search and insertion, for a state block that holds a funnel table, and the gate of every call on one.
-ghost use Rattle.std.specs.Prelude.{true, ◌≡◌, ◌+◌, ◌≤◌, length};
+// Search and insertion, and the gate of every call on a funnel table.
+ghost use Rattle.std.specs.Prelude.{◌≡◌};
 ghost use Rattle.gridder_answer.specs.Answer.{reply};
-ghost use Rattle.gridder_calls.specs.Calls.{call_gate, search_call, left, counted_in, insert_call};
+ghost use Rattle.gridder_calls.specs.Calls.{call_gate, search_call, left, insert_call};
 ghost use Rattle.lent.specs.Lent.{words_of};
-ghost use Rattle.gridder_state.specs.State.{holds_funnel};
 
-use crate::enter::{Entered, enter};
-use funnel::table::{FunnelTable, Insertion};
+use crate::enter::{enter, refuse};
+use funnel::table::FunnelTable;
 use funnel_calls::calls::table_gate;
 use funnel_insert::insert::put;
 use funnel_search::search::find;
-use geometry::config::Gated;
-use gridder_answer::answer::{ANSWER_LENGTH, say_gate, say_insertion, say_search};
+use gridder_answer::answer::{ANSWER_LENGTH, say_insertion, say_search};
 use gridder_answer::gate::block_gate;
 use gridder_state::state::write_count;
+use refusal::Gate;
 
 // Where an identity is, or the vacancy where it would be put: said in the answer block, with the number of a refusal.
 pub fn search_in(state: &[u8], words: &[u8], flags: &[u8], identity: u64, answer: &mut [u8]) -> u64
-    requires { holds_funnel state.now ≡ true }
     ensures { reply result answer.new ≡ search_call state.now words.now flags.now identity answer.old }
 {
     let mut counts = [0; 118];
     match enter(state, &mut counts, words.len(), flags.len(), answer.len()) {
-        Entered::Refused(g) => say_gate(answer, g),
-        Entered::Open(table) => {
-            let none: [u64; 0] = [];
-            say_search(
-                answer,
-                find(table, &counts, &none, flags, identity, words, true),
-            )
+        Err(refusal) => refuse(answer, refusal),
+        Ok(table) => {
+            let found = find(table, &counts, words, flags, identity);
+            say_search(answer.as_mut_array().unwrap(), found)
         }
     }
 }
@@ -40,7 +35,7 @@ pub fn call_gate(
     words: u64,
     flags: u64,
     answer: usize,
-) -> Gated
+) -> Result<(), Gate>
     ensures { result ≡ call_gate table counts.now words flags answer }
 {
     block_gate(
@@ -58,35 +53,17 @@ pub fn insert_in(
     identity: u64,
     answer: &mut [u8],
 ) -> u64
-    requires { holds_funnel state.old ≡ true }
     ensures { left result answer.new state.new (words_of words.new) flags.new ≡ insert_call state.old words.old flags.old identity answer.old }
 {
     let mut counts = [0; 118];
     match enter(state, &mut counts, words.len(), flags.len(), answer.len()) {
-        Entered::Refused(g) => say_gate(answer, g),
-        Entered::Open(table) => {
-            let count = table.count;
-            let mut none: [u64; 0] = [];
-            let done = put(
-                table, count, &counts, &mut none, flags, identity, words, true,
-            );
-            count_insertion(state, done, count);
-            say_insertion(answer, done)
+        Err(refusal) => refuse(answer, refusal),
+        Ok(table) => {
+            let done = put(table, table.count, &counts, words, flags, identity);
+            if done.is_ok() {
+                write_count(state, table.count + 1);
+            }
+            say_insertion(answer.as_mut_array().unwrap(), done)
         }
     }
-}
-
-// The count in a block after an answer: an insertion steps it.
-fn count_insertion(state: &mut [u8], done: Insertion, count: u64)
-    requires { (length state.old ≡ 2048) × (count ≤ 4294967296) }
-    ensures { state.new ≡ counted_in state.old done (count + 1) }
-{
-    let Insertion::Inserted {
-        probes: _,
-        place: _,
-    } = done
-    else {
-        return;
-    };
-    write_count(state, count + 1);
 }

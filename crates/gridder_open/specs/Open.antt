@@ -1,11 +1,10 @@
 -- The exported opening of a funnel table: what it answers and leaves. Assumes nothing.
-use Rattle.std.specs.Prelude.{List, [], ◌≡◌, ℕ, ◌*◌, eqb, length, replicate}
+use Rattle.std.specs.Prelude.{Ok, Err, List, [], ◌≡◌, ℕ, ◌*◌, eqb, length, replicate}
 use Rattle.refusal.specs.Table.{number_of, name_of}
 use Rattle.refusal.specs.declared.Name.TheVariants as name
 use Rattle.words.specs.Pick.{pick}
 use Rattle.geometry.specs.Funnel.{IsPlan}
-use Rattle.geometry.specs.declared.config.Gated.{Gated}
-use Rattle.geometry.specs.declared.config.Gated.TheVariants.{Passed, Refused}
+use Rattle.geometry.specs.Config.{Gated}
 use Rattle.geometry.specs.declared.funnel.FunnelPlan.{FunnelPlan}
 use Rattle.funnel.specs.Calls.{open_gate}
 use Rattle.funnel.specs.declared.table.FunnelTable.{FunnelTable}
@@ -30,10 +29,10 @@ fresh n e seed cap plan = record { n = n; e = e; seed = seed; word_cap = cap; co
 
 -- an opening by its gate: "Opening zeroes both; that is a fresh table"; a refusal leaves state and buffers as on entry
 unfoldable pub OpensBy : Gated → (n e seed cap : ℕ) (state words flags answer : List ℕ) (number : ℕ) (state' words' flags' answer' : List ℕ) → Type 0
-OpensBy (Refused g) n e seed cap state words flags answer number state' words' flags' answer' =
+OpensBy (Err g) n e seed cap state words flags answer number state' words' flags' answer' =
     (number ≡ number_of (name_of g)) × (state' ≡ state) × (words' ≡ words) × (flags' ≡ flags)
     × (answer' ≡ open_saying (number_of (name_of g)) (length state) answer)
-OpensBy Passed n e seed cap state words flags answer number state' words' flags' answer' =
+OpensBy (Ok _) n e seed cap state words flags answer number state' words' flags' answer' =
     (plan : FunnelPlan) × (counts : List ℕ) × IsPlan n e plan counts × (number ≡ 0) × (state' ≡ funnel_block (fresh n e seed cap plan) counts)
     × (words' ≡ replicate (n * 8) 0) × (flags' ≡ replicate n 0) × (answer' ≡ says [])
 

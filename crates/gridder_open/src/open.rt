@@ -1,15 +1,12 @@
 // The opening of a funnel table for C: its gate, what a refusal says, and the opening itself.
-ghost use Rattle.std.specs.Prelude.{◌≡◌, length};
+ghost use Rattle.std.specs.Prelude.{◌≡◌, Ok, length};
 ghost use Rattle.gridder_answer.specs.Answer.{reply};
 ghost use Rattle.gridder_open.specs.Open.{open_blocks_gate, open_saying, OpensBy};
 ghost use Rattle.refusal.specs.Table.{number_of, name_of};
-ghost use Rattle.geometry.specs.declared.config.Gated.TheVariants.{Passed};
 ghost use Rattle.lent.specs.Lent.{word_count};
 
 use funnel::table::FunnelTable;
 use funnel_calls::calls::open_gate;
-use geometry::config::Gated;
-use geometry::funnel::FunnelPlanned;
 use geometry_funnel::plan::funnel_plan;
 use gridder_answer::answer::{ANSWER_LENGTH, say_gate};
 use gridder_answer::gate::block_gate;
@@ -26,7 +23,7 @@ pub fn open_blocks_gate(
     flags: u64,
     state: usize,
     answer: usize,
-) -> Gated
+) -> Result<(), Gate>
     ensures { result ≡ open_blocks_gate n e cap words flags state answer }
 {
     let tested = block_gate(open_gate(n, e, cap, words, flags), state, STATE_LENGTH);
@@ -37,14 +34,15 @@ pub fn open_blocks_gate(
 pub fn refuse_open(state: usize, answer: &mut [u8], gate: Gate) -> u64
     ensures { reply result answer.new ≡ reply (number_of (name_of gate)) (open_saying (number_of (name_of gate)) state answer.old) }
 {
-    let refused = number(gate_name(gate));
-    if refused != number(Name::State) {
-        return say_gate(answer, gate);
+    match gate {
+        Gate::State => {
+            if state != STATE_LENGTH {
+                return number(Name::State);
+            }
+            say_gate(answer, gate)
+        }
+        _ => say_gate(answer, gate),
     }
-    if state != STATE_LENGTH {
-        return refused;
-    }
-    say_gate(answer, gate)
 }
 
 pub fn open_in(
@@ -57,13 +55,13 @@ pub fn open_in(
     flags: &mut [u8],
     answer: &mut [u8],
 ) -> u64
-    requires { open_blocks_gate n e word_cap (word_count (length words.old)) (length flags.old) (length state.old) (length answer.old) ≡ Passed }
-    ensures { OpensBy Passed n e seed word_cap state.old words.old flags.old answer.old result state.new words.new flags.new answer.new }
+    requires { open_blocks_gate n e word_cap (word_count (length words.old)) (length flags.old) (length state.old) (length answer.old) ≡ Ok tt }
+    ensures { OpensBy (Ok tt) n e seed word_cap state.old words.old flags.old answer.old result state.new words.new flags.new answer.new }
 {
     let mut counts = [0; 118];
     match funnel_plan(n, e, &mut counts) {
-        FunnelPlanned::Refused(g) => number(gate_name(g)),
-        FunnelPlanned::Plan(plan) => {
+        Err(gate) => number(gate_name(gate)),
+        Ok(plan) => {
             let table = FunnelTable {
                 n,
                 e,

@@ -1,7 +1,7 @@
 // The state block of the calls for C: the numbers of a table between two calls. Carries request 1 of the changes after the base.
 //
 // A call tests what it is lent, requires nothing, answers the number of its refusal (0 where there is none), and writes what more it has to
-// say to the answer block, which is in `gridder_answer`. The calls are in `landovireph`; what they do past the test of the state block is in
+// say to the answer block, which is in `gridder_answer`. The calls are in `landovireph`; what they do is in
 // `gridder_calls`, `gridder_check`, `gridder_images` and `gridder_elastic`.
 //
 // Every number in a block is a little-endian word of eight bytes. The state block, 2,048 bytes, of a funnel table:

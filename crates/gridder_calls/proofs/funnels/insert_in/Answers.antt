@@ -1,48 +1,38 @@
 -- `gridder_calls::funnels::insert_in` meets its contract. By how the table was entered. Assumes nothing.
+use mathlib.Core.Path.{◌≡◌, sym, ◌∙◌}
+use Prim.Native.Nat.{◌+◌}
 use native.Mathlib.Omega.{arith}
 use Rattle.gridder_state.specs.StateLaws.{holds_facts}
-use Rattle.gridder_calls.specs.EnterLaws.{entry_ready, valid_in, ready_count}
-use Rattle.gridder_calls.specs.CallLaws.{insert_refused, insert_open}
+use Rattle.gridder_calls.specs.Calls.{counted_in}
+use Rattle.gridder_calls.specs.EnterLaws.{entry_open, entry_ready, valid_in, ready_count}
+use Rattle.gridder_calls.specs.CallLaws.{insert_refused, insert_open, counted_inserted, uncounted}
 use Rattle.gridder_calls.proofs.funnels.insert_in.Goals as goal
+use Rattle.gridder_calls.proofs.funnels.insert_in.Goals.{then-is_ok, else-is_ok}
 
 pub put-done-requires : goal.put-done-requires
 put-done-requires c =
-    let c1 = c in
-    let a = c1.args in
-    let e = c.enter.ensures in
-    let r = entry_ready _ a.words.now a.flags.now a.answer.now _ _ e _ c.in-Open.is in
+    let r = entry_ready _ c.args.words.now c.args.flags.now c.args.answer.now _ _ c.enter.ensures _ c.in-Ok.is in
     (valid_in r, (ready_count r).0)
 
-pub count_insertion-requires : goal.count_insertion-requires
-count_insertion-requires c =
-    let c1 = c in
-    let c2 = c in
-    let a = c2.args in
-    let e = c1.enter.ensures in
-    let n = ready_count (entry_ready _ a.words.now a.flags.now a.answer.now _ _ e _ c1.in-Open.is) in
-    ((holds_facts _ _ c2.requires).long, omega arith)
+pub overflow_add-table : goal.overflow_add-table
+overflow_add-table c =
+    let n = ready_count (entry_ready _ c.args.words.now c.args.flags.now c.args.answer.now _ _ c.enter.ensures _ c.in-Ok.is) in
+    omega arith
 
-pub say_insertion-requires : goal.say_insertion-requires
-say_insertion-requires c =
-    let c1 = c in
-    let c2 = c in
-    let a = c2.args in
-    let e = c1.enter.ensures in
-    (entry_ready _ a.words.now a.flags.now a.answer.now _ _ e _ c1.in-Open.is).room
+pub write_count-requires : goal.write_count-requires
+write_count-requires c = (holds_facts _ _ (entry_open _ c.args.words.now c.args.flags.now c.args.answer.now _ _ c.enter.ensures _ c.in-Ok.is).held).long
 
-pub returns-in-Refused : goal.returns-in-Refused
-returns-in-Refused c =
-    let c1 = c in
-    let e = c.enter.ensures in
-    insert_refused _ _ _ _ _ _ e c1.requires _ _ _ _ c.in-Refused.is c.say_gate.ensures
+pub unwrap-requires : goal.unwrap-requires
+unwrap-requires c =
+    c.as_mut_array.ensures.variant.1 (entry_ready _ c.args.words.now c.args.flags.now c.args.answer.now _ _ c.enter.ensures _ c.in-Ok.is).room
 
-pub returns-in-Open : goal.returns-in-Open
-returns-in-Open c =
-    let c1 = c in
-    let c2 = c in
-    let e = c2.enter.ensures in
-    let h = c2.requires in
-    let t = c1.in-Open.is in
-    let p = c1.put-done in
-    let s = c.count_insertion.ensures in
-    insert_open _ _ _ _ _ _ e h _ _ _ _ t _ _ _ _ _ p.auto.lent p.ensures s c.say_insertion.ensures
+pub returns-in-Err : goal.returns-in-Err
+returns-in-Err c = insert_refused _ _ _ _ _ _ c.enter.ensures _ _ _ _ c.in-Err.is c.refuse.ensures
+
+pub returns-after-is_ok : goal.returns-after-is_ok
+returns-after-is_ok c =
+    let counted : c.if-is_ok.state ≡ counted_in c.args.state.now c.put-done.result (c.in-Ok.table.count + 1) = elim c.if-is_ok.branch [
+      | then-is_ok w ↦ counted_inserted _ _ _ _ (sym c.is_ok.ensures.value ∙ w.if-is_ok.true) (w.state-is ∙ w.write_count.ensures)
+      | else-is_ok w ↦ w.state-is ∙ uncounted _ _ _ (sym c.is_ok.ensures.value ∙ w.if-is_ok.false)
+    ] in
+    insert_open _ _ _ _ _ _ c.enter.ensures _ _ _ _ c.in-Ok.is _ _ _ _ c.put-done.auto.words c.put-done.ensures counted c.say_insertion.ensures
