@@ -4,6 +4,7 @@ ghost use Rattle.std.proofs.lemmas.List.Edits.{sets};
 ghost use Rattle.words.specs.Bytes.{bytes_of};
 ghost use Rattle.image.specs.Format.{entry_size, label_most, entry_bytes, field_of, label_field, fields_for, image_of};
 ghost use Rattle.image_writer.specs.Pieces.{entries_to, Put, PutEntries, PutFields, chunk, size_of};
+ghost use Rattle.image_writer.specs.declared.writer.WriteRefusal.TheVariants as write_refusal;
 ghost use Rattle.image_writer.specs.Writing.{writes, head_of, write_of};
 
 use crate::dirty::scan_table;
@@ -21,6 +22,14 @@ pub enum WriteRefusal {
     Gate(Gate),
     Dirty { slot: GlobalSlot },
     Room { need: u64 },
+}
+
+impl From<Gate> for WriteRefusal {
+    ghost from_gives = { λ g refused. refused ≡ write_refusal.Gate g };
+
+    fn from(gate: Gate) -> WriteRefusal {
+        WriteRefusal::Gate(gate)
+    }
 }
 
 // The image of a table whose buffers have its length, and the image's length, or why there is none.
@@ -85,7 +94,7 @@ fn write_all<E: Stored>(
     write_number::<8>(out, behind_entries, 6, entries);
 }
 
-// What names a table.
+// What names a table. Neither type is of this crate, so there is no From between them.
 pub fn head_of(table: FunnelTable) -> Head
     ensures { result ≡ head_of table }
 {
