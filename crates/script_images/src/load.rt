@@ -1,6 +1,7 @@
 // LOAD n e seed cap HEX: an image into a table whose every word is slot + 1, every flag 1, and whose count is 0.
 use crate::check::put_kept;
-use image_calls::calls::{LoadRefusal, Loaded, load_image};
+use image_calls::calls::{LoadImageRefusal, Loaded, load_image};
+use image_calls::loader::LoadRefusal;
 use refusal::Name;
 use script::print::Refusal;
 use script_funnel::runs::Held;
@@ -31,17 +32,19 @@ fn before(slot: usize) -> u64 {
     (slot as u64).wrapping_add(1)
 }
 
-fn loaded(field: &[u8], table: &mut Held) -> Result<Loaded, LoadRefusal> {
+fn loaded(field: &[u8], table: &mut Held) -> Result<Loaded, LoadImageRefusal> {
     let mut image = image_buffer();
     let k = spell(field, &mut image);
     load_image(table.table, table.counts, table.words, table.flags, &image[..k])
 }
 
-fn refusal_of(refused: LoadRefusal) -> Refusal {
+fn refusal_of(refused: LoadImageRefusal) -> Refusal {
     match refused {
-        LoadRefusal::Gate(gate) => Refusal::from(gate),
-        LoadRefusal::Image { place } => Refusal::Valued(Name::Image, place),
-        LoadRefusal::Foreign => Refusal::Named(Name::Foreign),
+        LoadImageRefusal::Gate(gate) => Refusal::from(gate),
+        LoadImageRefusal::Load(LoadRefusal::Image { place }) => {
+            Refusal::Valued(Name::Image, place)
+        }
+        LoadImageRefusal::Load(LoadRefusal::Foreign) => Refusal::Named(Name::Foreign),
     }
 }
 
