@@ -6,8 +6,9 @@ For each point of that page the number of places in the sources below crates/*/s
 says is judged by a reader: an enum that is a choice is no place of point 1, and a `while` that has no counter is none of point 3.
 """
 import collections
+import difflib
 import glob
-import os
+import itertools
 import re
 import sys
 
@@ -22,10 +23,6 @@ def code(path):
 
 
 sources = {f[len(root) + 1:]: code(f) for f in sorted(glob.glob(root + "/crates/*/src/**/*.rt", recursive=True))}
-
-
-def crate(path):
-    return path.split("/")[1]
 
 
 def find(pattern):
@@ -65,12 +62,28 @@ def facts():
     return [("", n, c) for c, n in times.most_common() if n >= 3]
 
 
-def namesakes():
-    named = collections.defaultdict(list)
-    for path, line, name, _ in functions():
-        if name != "main":
-            named[name].append((path, line, name))
-    return [x for found in named.values() if len(found) > 1 for x in found]
+def bodies():
+    """Each longer function, with its types, sizes and constants made one."""
+    for path, text in sources.items():
+        for m in re.finditer(r"^( *)(?:pub(?:\(crate\))? )?(?:extern \"C\" )?fn (\w+)", text, re.M):
+            end = re.search(r"^" + m.group(1) + r"\}", text[m.start():], re.M)
+            if end:
+                body = re.sub(r"(?:requires|ensures)[^\n]*\n", "", text[m.start():m.start() + end.end()])
+                body = re.sub(r"fn \w+", "fn F", body)
+                body = re.sub(r"\b(?:u8|u16|u32|u64|usize|words?|bytes?|[eE]lastic|[fF]unnel|read\d+|write\d+|\d+)\b", "T", body)
+                body = " ".join(body.split())
+                if len(body) > 120:
+                    yield path, text.count("\n", 0, m.start()) + 1, m.group(2), body
+
+
+def twins():
+    found = []
+    for (p, l, f, x), (q, k, g, y) in itertools.combinations(list(bodies()), 2):
+        if abs(len(x) - len(y)) <= 0.25 * max(len(x), len(y)):
+            alike = difflib.SequenceMatcher(None, x, y, autojunk=False)
+            if alike.real_quick_ratio() > 0.86 and alike.quick_ratio() > 0.86 and alike.ratio() > 0.86:
+                found.append((p, l, f"{f}, {q}:{k}: {g}"))
+    return found
 
 
 def lines(pattern):
@@ -83,7 +96,7 @@ points = [
     ("1 numbers for kinds: fields of a letter, a tag or a reason", find(r"^ {4}pub (?:letter|reason|kind|turn|tag|second): u(?:8|64),$")),
     ("1 a number that says there is none", [x for x in find(r"^ *return (?:0|16|usize::MAX);$")]),
     ("2 functions over two storages told apart by a flag", parameters(r"bytes: bool")),
-    ("2 functions that have a namesake in another module", namesakes()),
+    ("2 pairs of functions that are alike but for names, types, sizes and constants", twins()),
     ("3 while and loop", find(r"\bwhile [^{\n]*\{|\bloop \{")),
     ("4 equality, order, copying, conversion and printing by hand", [
         (p, l, f) for p, l, f, _ in functions()
