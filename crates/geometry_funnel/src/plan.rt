@@ -27,6 +27,7 @@ pub fn funnel_plan(n: u64, e: u32, counts: &mut [u64; 118]) -> Result<FunnelPlan
 }
 
 // The tests 1 to 5 of a funnel table: whether n and e have a plan.
+#[tactic(auto, using(crate::specs::SpecialGateLaws::special_or_passed, crate::specs::SpecialGateLaws::special_or_refused))]
 pub fn funnel_gate(n: u64, e: u32) -> Result<(), Gate>
     ensures { result ≡ funnel_gate n e }
 {

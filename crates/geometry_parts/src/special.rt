@@ -27,6 +27,7 @@ pub fn base_two_loglog_ceiling(n: u64) -> u64
 }
 
 // The lower bound, by g.
+#[tactic(auto, using(geometry::specs::LengthLaws::least_is))]
 pub fn special_least(n: u64, e: u64, g: u64) -> u64
     requires { (e ≤ 27) × (g ≤ 5) × (g ≡ loglog n) }
     ensures { result ≡ special_least n e }
@@ -35,6 +36,7 @@ pub fn special_least(n: u64, e: u64, g: u64) -> u64
 }
 
 // The upper bound.
+#[tactic(auto, using(geometry::specs::LengthLaws::most_is))]
 pub fn special_most(n: u64, e: u64) -> u64
     requires { (n ≤ 4294967296) × (e ≤ 27) }
     ensures { result ≡ special_most n e }

@@ -29,6 +29,7 @@ pub fn search_in(state: &[u8], words: &[u8], flags: &[u8], identity: u64, answer
 }
 
 // The tests 1 to 7 of a table, and the length of the answer block.
+#[tactic(auto, unfolding(crate::specs::Calls::call_gate))]
 pub fn call_gate(
     table: FunnelTable,
     counts: &[u64; 118],

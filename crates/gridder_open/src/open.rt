@@ -15,6 +15,7 @@ use refusal::{Gate, Name, gate_name, number};
 use words::clear::clear_bytes;
 
 // The tests of an opening, and the lengths of both blocks.
+#[tactic(auto, unfolding(crate::specs::Open::open_blocks_gate))]
 pub fn open_blocks_gate(
     n: u64,
     e: u32,

@@ -21,6 +21,7 @@ pub fn smallest_in(count: u64, e: u32, first: u64, last: u64, answer: &mut [u8])
 }
 
 // The tests of the question, and the length of the answer block.
+#[tactic(auto, unfolding(crate::specs::Rent::rent_gate))]
 fn rent_gate(e: u32, first: u64, last: u64, answer: usize) -> Result<(), Gate>
     ensures { result ≡ rent_gate e first last answer }
 {
