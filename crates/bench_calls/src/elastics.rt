@@ -1,8 +1,7 @@
 // Elastic tables, whose numbers travel as n, e, seed, c, word cap, search cap, position cap, levels, maximum and count.
-use elastic::state::{Limits, Opened, State, open};
+use elastic::state::{Limits, State, open};
 use elastic_insert::insert::insert;
-use elastic_query::query::{QueryAnswer, query};
-use elastic_steps::answer::InsertAnswer;
+use elastic_query::query::query;
 use geometry::elastic::ElasticPlan;
 
 fn limits_of(s: &[u64; 10]) -> Limits {
@@ -42,16 +41,14 @@ pub extern "C" fn bench_elastic_open(
 ) -> bool {
     let limits = limits_of(state);
     let e = exponent_of(state);
-    match open(state[0], e, state[2], limits, counts, words, flags) {
-        Opened::Refused(_) => false,
-        Opened::Open(st) => {
-            let plan = st.plan;
-            state[7] = plan.levels;
-            state[8] = plan.maximum;
-            state[9] = 0;
-            true
-        }
-    }
+    let Ok(st) = open(state[0], e, state[2], limits, counts, words, flags) else {
+        return false;
+    };
+    let plan = st.plan;
+    state[7] = plan.levels;
+    state[8] = plan.maximum;
+    state[9] = 0;
+    true
 }
 
 // The phi of the slot that the identity went to, 0 where it was refused.
@@ -68,8 +65,8 @@ pub extern "C" fn bench_elastic_insert(
     let answer = step.answer;
     state[9] = next.count;
     match answer {
-        InsertAnswer::Refused(_) => 0,
-        InsertAnswer::Inserted(insertion) => insertion.phi,
+        Ok(insertion) => insertion.phi,
+        Err(_) => 0,
     }
 }
 
@@ -83,9 +80,7 @@ pub extern "C" fn bench_elastic_query(
     identity: u64,
 ) -> u64 {
     match query(state_of(state), counts, words, flags, identity) {
-        QueryAnswer::Found(found) => found.position,
-        QueryAnswer::Range(_) => 0,
-        QueryAnswer::Absent => 0,
-        QueryAnswer::Refused(_) => 0,
+        Ok(found) => found.position,
+        Err(_) => 0,
     }
 }

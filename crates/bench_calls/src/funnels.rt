@@ -2,12 +2,9 @@
 ghost use Rattle.funnel.specs.Valid.{Valid};
 
 use crate::put_plan;
-use funnel::table::{
-    FunnelTable, InsertAnswer, Insertion, OpenAnswer, PlaceAnswer, Placement, Search,
-};
+use funnel::table::{FunnelTable, Search};
 use funnel_calls::calls::{insert, open, place_all, table_gate};
 use funnel_search::search::find;
-use geometry::config::Gated;
 use geometry::funnel::FunnelPlan;
 
 pub fn table_of(s: &[u64; 16]) -> FunnelTable {
@@ -44,13 +41,11 @@ pub extern "C" fn bench_open(
     words: &mut [u64],
     flags: &mut [u8],
 ) -> bool {
-    match open(n, e, seed, cap, counts, words, flags) {
-        OpenAnswer::Gate(_) => false,
-        OpenAnswer::Table(table) => {
-            put_plan(table.plan, plan);
-            true
-        }
-    }
+    let Ok(table) = open(n, e, seed, cap, counts, words, flags) else {
+        return false;
+    };
+    put_plan(table.plan, plan);
+    true
 }
 
 #[unsafe(no_mangle)]
@@ -62,32 +57,12 @@ pub extern "C" fn bench_place_all(
     identities: &[u64],
     slots: &mut [u64],
 ) -> bool {
-    match place_all(table_of(state), counts, words, flags, identities, slots) {
-        PlaceAnswer::Gate(_) => false,
-        PlaceAnswer::Done(done) => {
-            let answer = done.answer;
-            state[4] = done.table.count;
-            is_all(answer)
-        }
-    }
-}
-
-fn is_all(answer: Placement) -> bool {
-    match answer {
-        Placement::All => true,
-        Placement::Range {
-            index: _,
-            refusal: _,
-        } => false,
-        Placement::Exhausted {
-            index: _,
-            probes: _,
-        } => false,
-        Placement::Full {
-            index: _,
-            probes: _,
-        } => false,
-    }
+    let Ok(done) = place_all(table_of(state), counts, words, flags, identities, slots) else {
+        return false;
+    };
+    let answer = done.answer;
+    state[4] = done.table.count;
+    answer.is_ok()
 }
 
 #[unsafe(no_mangle)]
@@ -98,30 +73,12 @@ pub extern "C" fn bench_insert(
     flags: &mut [u8],
     identity: u64,
 ) -> bool {
-    match insert(table_of(state), counts, words, flags, identity) {
-        InsertAnswer::Gate(_) => false,
-        InsertAnswer::Done(step) => {
-            let answer = step.answer;
-            state[4] = step.table.count;
-            is_inserted(answer)
-        }
-    }
-}
-
-fn is_inserted(answer: Insertion) -> bool {
-    match answer {
-        Insertion::Inserted {
-            probes: _,
-            place: _,
-        } => true,
-        Insertion::Duplicate {
-            probes: _,
-            place: _,
-        } => false,
-        Insertion::Range(_) => false,
-        Insertion::Exhausted { probes: _ } => false,
-        Insertion::Full { probes: _ } => false,
-    }
+    let Ok(step) = insert(table_of(state), counts, words, flags, identity) else {
+        return false;
+    };
+    let answer = step.answer;
+    state[4] = step.table.count;
+    answer.is_ok()
 }
 
 // The sum of the probe counts of searches, with the gate run once.
@@ -135,11 +92,8 @@ pub extern "C" fn bench_search_all(
 ) -> u64 {
     let table = table_of(state);
     match table_gate(table, counts, words.len() as u64, flags.len() as u64) {
-        Gated::Refused(_) => 0,
-        Gated::Passed => {
-            let none: [u8; 0] = [];
-            sum_probes(table, counts, words, flags, identities, &none)
-        }
+        Ok(()) => sum_probes(table, counts, words, flags, identities),
+        Err(_) => 0,
     }
 }
 
@@ -149,16 +103,12 @@ fn sum_probes(
     words: &[u64],
     flags: &[u8],
     identities: &[u64],
-    none: &[u8],
 ) -> u64
     requires { Valid table counts.now words.now flags.now }
 {
-    let mut sum = 0;
-    let mut i = 0;
-    while i < identities.len() {
-        let found = find(table, counts, words, flags, identities[i], none, false);
-        sum = std::num::wrapping_add_u64(sum, probes_of(found));
-        i += 1;
+    let mut sum: u64 = 0;
+    for identity in identities {
+        sum = sum.wrapping_add(probes_of(find(table, counts, words, flags, *identity)));
     }
     sum
 }

@@ -1,8 +1,7 @@
 // Images of funnel tables and their check.
 use crate::funnels::table_of;
-use audit_calls::check::{Checked, check};
-use image_calls::calls::{Loaded, load_image, write_image};
-use image_writer::writer::Written;
+use audit_calls::check::{CheckRefusal, check};
+use image_calls::calls::{load_image, write_image};
 
 // What the check says: 0 accepted, 1 disorder, 2 another refusal; and the number placed, and the slot of a disorder.
 #[unsafe(no_mangle)]
@@ -16,17 +15,16 @@ pub extern "C" fn bench_check(
     told: &mut [u64; 2],
 ) -> u64 {
     match check(table_of(state), counts, words, flags, marks, order) {
-        Checked::Accepted { placed } => {
+        Ok(placed) => {
             told[0] = placed;
             0
         }
-        Checked::Disorder { placed, slot } => {
+        Err(CheckRefusal::Disorder { placed, slot }) => {
             told[0] = placed;
             told[1] = slot;
             1
         }
-        Checked::Dirty { slot: _ } => 2,
-        Checked::Gate(_) => 2,
+        Err(_) => 2,
     }
 }
 
@@ -41,10 +39,8 @@ pub extern "C" fn bench_write_image(
     out: &mut [u8],
 ) -> u64 {
     match write_image(table_of(state), counts, words, flags, label, out) {
-        Written::Done { len } => len,
-        Written::Room { need: _ } => 0,
-        Written::Dirty { slot: _ } => 0,
-        Written::Gate(_) => 0,
+        Ok(len) => len,
+        Err(_) => 0,
     }
 }
 
@@ -56,14 +52,5 @@ pub extern "C" fn bench_load_image(
     flags: &mut [u8],
     image: &[u8],
 ) -> bool {
-    match load_image(table_of(state), counts, words, flags, image) {
-        Loaded::Done {
-            table: _,
-            label_at: _,
-            label_len: _,
-        } => true,
-        Loaded::Foreign => false,
-        Loaded::Image { place: _ } => false,
-        Loaded::Gate(_) => false,
-    }
+    load_image(table_of(state), counts, words, flags, image).is_ok()
 }

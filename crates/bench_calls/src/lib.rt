@@ -6,10 +6,10 @@ mod elastics;
 mod funnels;
 mod images;
 
-use geometry::funnel::{FunnelPlan, FunnelPlanned};
+use geometry::funnel::FunnelPlan;
 use geometry_funnel::plan::{funnel_plan, is_funnel_plan};
 use probe::counter::Domain;
-use probe::range::{Drawn, funnel_draw};
+use probe::range::funnel_draw;
 use probe::word::{FunnelKey, funnel_key};
 use words::place::LogicalProbe;
 
@@ -50,13 +50,11 @@ pub extern "C" fn bench_funnel_plan(
     plan: &mut [u64; 11],
     counts: &mut [u64; 118],
 ) -> bool {
-    match funnel_plan(n, e, counts) {
-        FunnelPlanned::Refused(gate) => false,
-        FunnelPlanned::Plan(p) => {
-            put_plan(p, plan);
-            true
-        }
-    }
+    let Ok(p) = funnel_plan(n, e, counts) else {
+        return false;
+    };
+    put_plan(p, plan);
+    true
 }
 
 #[unsafe(no_mangle)]
@@ -73,28 +71,20 @@ pub extern "C" fn bench_is_funnel_plan(
 #[unsafe(no_mangle)]
 pub extern "C" fn bench_draws(seed: u64, identity: u64, cap: u64, counts: &[u64]) -> u64 {
     let key = funnel_key(seed, identity);
-    let mut sum = 0;
-    let mut level = 0;
-    while level < counts.len() {
-        sum = std::num::wrapping_add_u64(sum, bucket(key, level as u64, counts[level], cap));
-        level += 1;
+    let mut sum: u64 = 0;
+    for (level, count) in counts.iter().enumerate() {
+        sum = sum.wrapping_add(bucket(key, level as u64, *count, cap));
     }
     sum
 }
 
 // The bucket of a key in a level, 0 where there is none.
 fn bucket(key: FunnelKey, level: u64, count: u64, cap: u64) -> u64 {
-    if count == 0 {
-        return 0;
-    }
-    if 256 < cap {
-        return 0;
-    }
-    if 118 <= level {
+    if count == 0 || 256 < cap || 118 <= level {
         return 0;
     }
     match funnel_draw(key, Domain::Ordinary { level }, LogicalProbe(0), count, cap) {
-        Drawn::Index { index, words: _ } => index,
-        Drawn::Refused(_) => 0,
+        Ok(drew) => drew.index,
+        Err(_) => 0,
     }
 }

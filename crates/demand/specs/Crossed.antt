@@ -1,6 +1,6 @@
 -- The slip that looks right: "Checking an image by looking each member up: two members can each block the other's slot, and both are
 -- found." Here such an image is shown to be disordered. Assumes nothing.
-use Rattle.std.specs.Prelude.{Bool, true, false, List, [], ◌∷◌, ◌≡◌, refl, ℕ, ◌+◌, ◌<◌, get_or, set, replicate, eqb}
+use Rattle.std.specs.Prelude.{Err, Some, None, Bool, true, false, List, [], ◌∷◌, ◌≡◌, refl, ℕ, ◌+◌, ◌<◌, get_or, set, replicate, eqb}
 use Rattle.std.proofs.Common.{⊎_elim, ap, sym, ◌∙◌, arith, get_or-set_other}
 use Rattle.std.proofs.lemmas.Bool.{eqb-false}
 use Rattle.words.specs.BytesLaws.{get_d_zeros}
@@ -9,9 +9,8 @@ use Rattle.funnel.specs.declared.table.FunnelTable.{FunnelTable}
 use Rattle.funnel.specs.declared.table.Search.TheVariants.{Vacant}
 use Rattle.funnel.specs.Path.{Ending, slot_of}
 use Rattle.funnel.specs.Search.{look, walk_of, search_of, table_path, find_of}
-use Rattle.audit_calls.specs.declared.check.Checked.TheVariants as checked
-use Rattle.audit.specs.declared.slots.First.{First}
-use Rattle.audit.specs.declared.slots.First.TheVariants.{At, Nothing}
+use Rattle.audit_calls.specs.declared.check.CheckRefusal.TheVariants as checked
+use Rattle.audit.specs.Greedy.{First}
 use Rattle.audit.specs.Greedy.{first_from, unplaced, ready}
 use Rattle.audit_calls.specs.Check.{Lent, Ended, end_of, take_all, audit_of, check_of}
 use Rattle.audit_calls.specs.CheckLaws.{check_audit}
@@ -52,7 +51,7 @@ find_blocked table counts words flags identity a b j at d v s h e = walk_blocked
 pub crossed : {table : FunnelTable} {counts words flags marks order : List ℕ} → Lent table counts words flags marks order → (a b : ℕ) → (a ≡ b → ⊥)
     → Occupied flags a → Occupied flags b
     → Before b a (table_path table counts (get_or words a 0)).places → Before a b (table_path table counts (get_or words b 0)).places
-    → Clean words flags → (placed : ℕ) × (slot : ℕ) × ((check_of table counts words flags marks order).answer ≡ checked.Disorder placed slot)
+    → Clean words flags → (placed : ℕ) × (slot : ℕ) × ((check_of table counts words flags marks order).answer ≡ Err (checked.Disorder placed slot))
 unfolding audit_of take_all end_of
 crossed {table} {counts} {words} {flags} {marks} {order} lent a b d oa ob pa pb c =
     go (first_from (unplaced flags (end lent).marks) 0 table.n) refl
@@ -71,10 +70,10 @@ crossed {table} {counts} {words} {flags} {marks} {order} lent a b d oa ob pa pb 
         ).0
 
     go : (r : First) → first_from (unplaced flags (end lent).marks) 0 table.n ≡ r
-        → (placed : ℕ) × (slot : ℕ) × ((check_of table counts words flags marks order).answer ≡ checked.Disorder placed slot)
-    go (At s) q =
+        → (placed : ℕ) × (slot : ℕ) × ((check_of table counts words flags marks order).answer ≡ Err (checked.Disorder placed slot))
+    go (Some s) q =
         ((end lent).placed, s, ap (λ (x : Ended). x.answer) (check_audit table counts words flags marks order lent) ∙ rw (image_clean words flags table.n c, q))
-    go Nothing q =
+    go None q =
         let u = unplaced_yes flags (end lent).marks a oa left in
         let w = occupied_below flags a oa in
         let n = first_none _ 0 table.n q a (omega arith) (omega (arith, lent.valid.flags_length)) in

@@ -2,14 +2,12 @@
 -- exists, and the placed part is handed back. `Made.antt` says what the words mean; no definition here or there mentions code, and
 -- the contract of the check says that its answer, marks and order are those of `check_of`. The theorems speak of calls past STATE
 -- (`Lent`: the state is valid and the lent buffers are n long). Assumes nothing.
-use Rattle.std.specs.Prelude.{List, ◌≡◌, ℕ, ◌^◌, ◌≤◌, ◌<◌, length, get_or, take, drop}
+use Rattle.std.specs.Prelude.{Ok, Err, Some, List, ◌≡◌, ℕ, ◌^◌, ◌≤◌, ◌<◌, length, get_or, take, drop}
 use Rattle.std.proofs.Common.{ap, sym, ◌∙◌, arith}
 use Rattle.funnel.specs.declared.table.FunnelTable.{FunnelTable}
-use Rattle.audit_calls.specs.declared.check.Checked.{Checked}
-use Rattle.audit_calls.specs.declared.check.Checked.TheVariants as checked
-use Rattle.audit.specs.declared.slots.First.TheVariants.{At}
+use Rattle.audit_calls.specs.declared.check.CheckRefusal.TheVariants as checked
 use Rattle.funnel.specs.Dirty.{dirty_at}
-use Rattle.audit_calls.specs.Check.{Lent, Ended, ended, check_of}
+use Rattle.audit_calls.specs.Check.{Lent, Checked, Ended, ended, check_of}
 use Rattle.queue.specs.Queue.{Found}
 use Rattle.audit.specs.FirstLaws.{first_found}
 use Rattle.audit.specs.Marked.{marks_of}
@@ -21,9 +19,7 @@ use Rattle.geometry.specs.declared.funnel.FunnelPlan.{FunnelPlan}
 use Rattle.funnel.specs.Fresh.{fresh, after, Sound}
 use Rattle.funnel.proofs.FreshLaws.{fresh_after}
 use Rattle.funnel.specs.Insert.{with_count}
-use Rattle.image_calls.specs.declared.calls.Loaded.TheVariants as loaded
-use Rattle.image_writer.specs.declared.writer.Written.TheVariants as written
-use Rattle.image_calls.specs.Calls.{write_image_of, loadings, load_image_of}
+use Rattle.image_calls.specs.Calls.{write_image_of, loaded, loadings, load_image_of}
 use Rattle.image_writer.specs.DirtyLaws.{entries_most}
 use Rattle.image.specs.Format.{entries_of}
 use Rattle.image_writer.specs.Writing.{writes, head_of}
@@ -39,7 +35,7 @@ use Rattle.demand.specs.EndLaws.{Finished, accepted_end, disorder_end, dirty_end
 module _ {table : FunnelTable} {counts words flags marks order : List ℕ} (lent : Lent table counts words flags marks order) where
   -- 1. ACCEPTED. The first `placed` entries of the order are slots whose identities, inserted one after the other into a fresh table, are each
   -- answered as inserted at its slot, and end in the image slot for slot, words and flags.
-  pub accepted : (placed : ℕ) (marks' order' : List ℕ) → check_of table counts words flags marks order ≡ ended (checked.Accepted placed) marks' order'
+  pub accepted : (placed : ℕ) (marks' order' : List ℕ) → check_of table counts words flags marks order ≡ ended (Ok placed) marks' order'
       → LeavesAt table counts (identities_at words (take placed order')) (take placed order') words flags
   accepted placed marks' order' e =
       let f = accepted_end lent placed marks' order' e in
@@ -49,12 +45,12 @@ module _ {table : FunnelTable} {counts words flags marks order : List ℕ} (lent
 
   -- 2. MADE IMAGES ARE ACCEPTED. If any order of insertions, each answered as inserted, leaves the image, the check accepts it, with every
   -- member placed.
-  pub made_accepted : Made table counts words flags → (check_of table counts words flags marks order).answer ≡ checked.Accepted (members flags)
+  pub made_accepted : Made table counts words flags → (check_of table counts words flags marks order).answer ≡ Ok (members flags)
   made_accepted m = made_answer lent m
 
   -- 1 and 2 together: the check accepts the image exactly if some order of insertions makes it.
-  pub exactly : ((placed : ℕ) → (check_of table counts words flags marks order).answer ≡ checked.Accepted placed → Made table counts words flags)
-      × (Made table counts words flags → (check_of table counts words flags marks order).answer ≡ checked.Accepted (members flags))
+  pub exactly : ((placed : ℕ) → (check_of table counts words flags marks order).answer ≡ Ok placed → Made table counts words flags)
+      × (Made table counts words flags → (check_of table counts words flags marks order).answer ≡ Ok (members flags))
   exactly = (
     λ placed e.
         let c = check_of table counts words flags marks order in
@@ -80,7 +76,7 @@ module _ {table : FunnelTable} {counts words flags marks order : List ℕ} (lent
     pub unplaced : get_or marks' slot 0 ≡ 0
     pub smallest : (s : ℕ) → s < slot → Occupied flags s → Occupied marks' s
 
-  pub disordered : (placed slot : ℕ) (marks' order' : List ℕ) → check_of table counts words flags marks order ≡ ended (checked.Disorder placed slot) marks' order'
+  pub disordered : (placed slot : ℕ) (marks' order' : List ℕ) → check_of table counts words flags marks order ≡ ended (Err (checked.Disorder placed slot)) marks' order'
       → Disordered placed slot marks'
   disordered placed slot marks' order' e =
       let f = disorder_end lent placed slot marks' order' e in
@@ -88,7 +84,7 @@ module _ {table : FunnelTable} {counts words flags marks order : List ℕ} (lent
       let h = unplaced_facts flags marks' slot u.holds in
       record {
         no_order = λ m.
-            let a : checked.Disorder placed slot ≡ checked.Accepted (members flags) = sym (ap (λ (x : Ended). x.answer) e) ∙ made_accepted m in
+            let a : Err (checked.Disorder placed slot) ≡ Ok (members flags) = sym (ap (λ (x : Ended). x.answer) e) ∙ made_accepted m in
             let z : ◌≡◌ {A = ℕ} 0 1 = cc in
             omega arith;
         number = sym f.turns.number;
@@ -109,7 +105,7 @@ module _ {table : FunnelTable} {counts words flags marks order : List ℕ} (lent
     pub contains : members flags ≤ table.plan.maximum → (words' flags' : List ℕ) → PartOf words' flags' words flags → Made table counts words' flags'
         → PartOf words' flags' (placed_words words marks') marks'
 
-  pub placed_part : (placed slot : ℕ) (marks' order' : List ℕ) → check_of table counts words flags marks order ≡ ended (checked.Disorder placed slot) marks' order'
+  pub placed_part : (placed slot : ℕ) (marks' order' : List ℕ) → check_of table counts words flags marks order ≡ ended (Err (checked.Disorder placed slot)) marks' order'
       → PlacedPart placed marks' order'
   placed_part placed slot marks' order' e =
       record {
@@ -120,20 +116,20 @@ module _ {table : FunnelTable} {counts words flags marks order : List ℕ} (lent
             record { occupied = c; same = λ s o. p.same s o ∙ sym (word s (c s o)) };
       }
     where
-      f : Finished lent (At slot) placed marks' order'
+      f : Finished lent (Some slot) placed marks' order'
       f = disorder_end lent placed slot marks' order' e
 
       word : (s : ℕ) → Occupied marks' s → get_or (placed_words words marks') s 0 ≡ get_or words s 0
       word s o = placed_same words marks' s (lent.valid.words_length ∙ sym f.turns.marks_n) o
 
   -- 5. DIRTY images are made by no order; the slot named is the smallest dirty one.
-  pub dirty : (slot : ℕ) (marks' order' : List ℕ) → check_of table counts words flags marks order ≡ ended (checked.Dirty slot) marks' order' → Made table counts words flags → ⊥
+  pub dirty : (slot : ℕ) (marks' order' : List ℕ) → check_of table counts words flags marks order ≡ ended (Err (checked.Dirty slot)) marks' order' → Made table counts words flags → ⊥
   dirty slot marks' order' e m =
-      let a : checked.Dirty slot ≡ checked.Accepted (members flags) = sym (ap (λ (x : Ended). x.answer) e) ∙ made_accepted m in
+      let a : Err (checked.Dirty slot) ≡ Ok (members flags) = sym (ap (λ (x : Ended). x.answer) e) ∙ made_accepted m in
       let z : ◌≡◌ {A = ℕ} 0 1 = cc in
       omega arith
 
-  pub dirty_slot : (slot : ℕ) (marks' order' : List ℕ) → check_of table counts words flags marks order ≡ ended (checked.Dirty slot) marks' order'
+  pub dirty_slot : (slot : ℕ) (marks' order' : List ℕ) → check_of table counts words flags marks order ≡ ended (Err (checked.Dirty slot)) marks' order'
       → Found (dirty_at words flags) 0 table.n slot
   dirty_slot slot marks' order' e = first_found _ 0 table.n slot (dirty_end lent slot marks' order' e)
 
@@ -148,13 +144,13 @@ module _ {table : FunnelTable} {counts words flags marks order : List ℕ} (lent
     pub order_n : length order' ≡ length order
     pub tail : drop placed order' ≡ drop placed order
 
-  pub accepted_left : (placed : ℕ) (marks' order' : List ℕ) → check_of table counts words flags marks order ≡ ended (checked.Accepted placed) marks' order' → Left placed marks' order'
+  pub accepted_left : (placed : ℕ) (marks' order' : List ℕ) → check_of table counts words flags marks order ≡ ended (Ok placed) marks' order' → Left placed marks' order'
   accepted_left placed marks' order' e =
       let f = accepted_end lent placed marks' order' e in
       let t = f.turns in
       record { marks_are = f.listed; bits = t.bits; marked = t.part; number = sym t.number; marks_n = t.marks_n; order_n = t.order_n; tail = t.tail }
 
-  pub disordered_left : (placed slot : ℕ) (marks' order' : List ℕ) → check_of table counts words flags marks order ≡ ended (checked.Disorder placed slot) marks' order' → Left placed marks' order'
+  pub disordered_left : (placed slot : ℕ) (marks' order' : List ℕ) → check_of table counts words flags marks order ≡ ended (Err (checked.Disorder placed slot)) marks' order' → Left placed marks' order'
   disordered_left placed slot marks' order' e =
       let f = disorder_end lent placed slot marks' order' e in
       let t = f.turns in
@@ -167,14 +163,14 @@ pub record Returned (counts : List ℕ) (table : FunnelTable) (words flags image
   pub table' : FunnelTable
   pub label_at : ℕ
   pub label_len : ℕ
-  pub loads : load_image_of table counts words₀ flags₀ image ≡ loadings (loaded.Done table' label_at label_len) words flags
+  pub loads : load_image_of table counts words₀ flags₀ image ≡ loadings (Ok (loaded table' label_at label_len)) words flags
   pub accepts : (marks order : List ℕ) → length marks ≡ table.n → length order ≡ table.n
-      → (check_of table' counts words flags marks order).answer ≡ checked.Accepted (members flags)
+      → (check_of table' counts words flags marks order).answer ≡ Ok (members flags)
 
 pub returned : (counts : List ℕ) (n e seed cap : ℕ) (plan : FunnelPlan) → IsPlan n e plan counts → 1 ≤ cap → cap ≤ 256
     → seed < 2 ^ 64 → (identities : List ℕ) → ((k : ℕ) → get_or identities k 0 < 2 ^ 64)
     → (table : FunnelTable) (words flags : List ℕ) → after counts (fresh n e seed cap plan) identities ≡ record { table = table; words = words; flags = flags }
-    → (label out out' : List ℕ) (len : ℕ) → write_image_of table counts words flags label out ≡ writes (written.Done len) out'
+    → (label out out' : List ℕ) (len : ℕ) → write_image_of table counts words flags label out ≡ writes (Ok len) out'
     → (words₀ flags₀ : List ℕ) → length words₀ ≡ table.n → length flags₀ ≡ table.n → Returned counts table words flags (take len out') words₀ flags₀
 unfolding entries_of
 returned counts n e seed cap plan is low high small identities each table words flags ran label out out' len wrote words₀ flags₀ lw lf =

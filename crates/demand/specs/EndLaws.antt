@@ -1,5 +1,5 @@
 -- Where the greedy order ends in a valid state, and what the check's answer says of it. Assumes nothing.
-use Rattle.std.specs.Prelude.{Bool, true, false, List, ℕ, ◌≤◌, ◌<◌, length, get_or, replicate, eqb, ltb, leb}
+use Rattle.std.specs.Prelude.{Ok, Err, Some, None, Bool, true, false, List, ℕ, ◌≤◌, ◌<◌, length, get_or, replicate, eqb, ltb, leb}
 use Rattle.std.proofs.Math.Path.{◌≡◌, refl, ap}
 use Rattle.std.proofs.Common.{sym, ◌∙◌, arith, ext_get_or, eqb-true, eq-eqb, ltb-true, ltb-false, leb-true, leb-false}
 use Rattle.std.proofs.Math.Decide.{ℕ_discrete}
@@ -9,9 +9,8 @@ use Rattle.words.specs.BytesLaws.{get_d_zeros}
 use Rattle.funnel.specs.declared.table.FunnelTable.{FunnelTable}
 use Rattle.funnel.specs.PathLaws.{path_below}
 use Rattle.funnel.specs.Search.{table_path}
-use Rattle.audit_calls.specs.declared.check.Checked.TheVariants as checked
-use Rattle.audit.specs.declared.slots.First.{First}
-use Rattle.audit.specs.declared.slots.First.TheVariants.{At, Nothing}
+use Rattle.audit_calls.specs.declared.check.CheckRefusal.TheVariants as checked
+use Rattle.audit.specs.Greedy.{First}
 use Rattle.audit.specs.Greedy.{first_from, unplaced, ready, Taken, greedy_of}
 use Rattle.funnel.specs.Dirty.{dirty_at}
 use Rattle.audit_calls.specs.Check.{Lent, Ended, ended, answer_of, end_of, take_all, unless_dirty, audit_of, check_of}
@@ -35,7 +34,7 @@ beyond : (l : List ℕ) (n t : ℕ) → length l ≡ n → n ≤ t → get_or l 
 beyond l n t e h = get_or-eq_default l 0 (omega arith)
 
 -- no slot is dirty
-pub clean_image : (words flags : List ℕ) (n : ℕ) → length words ≡ n → length flags ≡ n → first_from (dirty_at words flags) 0 n ≡ Nothing → Clean words flags
+pub clean_image : (words flags : List ℕ) (n : ℕ) → length words ≡ n → length flags ≡ n → first_from (dirty_at words flags) 0 n ≡ None → Clean words flags
 unfolding dirty_at
 clean_image words flags n w f e = record { bits = bits; vacant_words = vacant }
   where
@@ -62,7 +61,7 @@ clean_image words flags n w f e = record { bits = bits; vacant_words = vacant }
             absurd (omega arith)
 
 -- and the other way round
-pub image_clean : (words flags : List ℕ) (n : ℕ) → Clean words flags → first_from (dirty_at words flags) 0 n ≡ Nothing
+pub image_clean : (words flags : List ℕ) (n : ℕ) → Clean words flags → first_from (dirty_at words flags) 0 n ≡ None
 image_clean words flags n c = first_all (dirty_at words flags) 0 n (λ t a b. go t (ℕ_discrete (get_or flags t 0) 0))
   where
     go : (t : ℕ) → Dec (get_or flags t 0 ≡ 0) → dirty_at words flags t ≡ false
@@ -129,7 +128,7 @@ module _ {table : FunnelTable} {counts words flags marks order : List ℕ} (l : 
     pub marks_are : marks' ≡ end.marks
     pub listed : marks' ≡ marks_of table.n order' placed
 
-  finish : (r : First) (placed : ℕ) (marks' order' : List ℕ) → first_from (dirty_at words flags) 0 table.n ≡ Nothing
+  finish : (r : First) (placed : ℕ) (marks' order' : List ℕ) → first_from (dirty_at words flags) 0 table.n ≡ None
       → first_from (unplaced flags end.marks) 0 table.n ≡ r → end.placed ≡ placed → end.marks ≡ marks' → end.order ≡ order' → Finished r placed marks' order'
   finish r placed marks' order' d f p m o =
       record {
@@ -140,51 +139,51 @@ module _ {table : FunnelTable} {counts words flags marks order : List ℕ} (l : 
         listed = rw (← m, ← o, ← p) end_listed;
       }
 
-  pub accepted_end : (placed : ℕ) (marks' order' : List ℕ) → check_of table counts words flags marks order ≡ ended (checked.Accepted placed) marks' order' → Finished Nothing placed marks' order'
+  pub accepted_end : (placed : ℕ) (marks' order' : List ℕ) → check_of table counts words flags marks order ≡ ended (Ok placed) marks' order' → Finished None placed marks' order'
   unfolding audit_of take_all end_of
   accepted_end placed marks' order' e =
       go (first_from (dirty_at words flags) 0 table.n) refl (first_from (unplaced flags end.marks) 0 table.n) refl (sym (check_audit table counts words flags marks order l) ∙ e)
     where
       go : (d : First) → first_from (dirty_at words flags) 0 table.n ≡ d → (r : First) → first_from (unplaced flags end.marks) 0 table.n ≡ r
-          → unless_dirty d marks order (ended (answer_of r end.placed) end.marks end.order) ≡ ended (checked.Accepted placed) marks' order' → Finished Nothing placed marks' order'
-      go (At s) d r u h = let a = ap (λ (x : Ended). x.answer) h in let z : ◌≡◌ {A = ℕ} 0 1 = cc in absurd (omega arith)
-      go Nothing d (At s) u h = let a = ap (λ (x : Ended). x.answer) h in let z : ◌≡◌ {A = ℕ} 0 1 = cc in absurd (omega arith)
-      go Nothing d Nothing u h =
+          → unless_dirty d marks order (ended (answer_of r end.placed) end.marks end.order) ≡ ended (Ok placed) marks' order' → Finished None placed marks' order'
+      go (Some s) d r u h = let a = ap (λ (x : Ended). x.answer) h in let z : ◌≡◌ {A = ℕ} 0 1 = cc in absurd (omega arith)
+      go None d (Some s) u h = let a = ap (λ (x : Ended). x.answer) h in let z : ◌≡◌ {A = ℕ} 0 1 = cc in absurd (omega arith)
+      go None d None u h =
           let a = ap (λ (x : Ended). x.answer) h in
           let p : end.placed ≡ placed = cc in
-          finish Nothing placed marks' order' d u p (ap (λ (x : Ended). x.marks) h) (ap (λ (x : Ended). x.order) h)
+          finish None placed marks' order' d u p (ap (λ (x : Ended). x.marks) h) (ap (λ (x : Ended). x.order) h)
 
-  pub disorder_end : (placed slot : ℕ) (marks' order' : List ℕ) → check_of table counts words flags marks order ≡ ended (checked.Disorder placed slot) marks' order' → Finished (At slot) placed marks' order'
+  pub disorder_end : (placed slot : ℕ) (marks' order' : List ℕ) → check_of table counts words flags marks order ≡ ended (Err (checked.Disorder placed slot)) marks' order' → Finished (Some slot) placed marks' order'
   unfolding audit_of take_all end_of
   disorder_end placed slot marks' order' e =
       go (first_from (dirty_at words flags) 0 table.n) refl (first_from (unplaced flags end.marks) 0 table.n) refl (sym (check_audit table counts words flags marks order l) ∙ e)
     where
       go : (d : First) → first_from (dirty_at words flags) 0 table.n ≡ d → (r : First) → first_from (unplaced flags end.marks) 0 table.n ≡ r
-          → unless_dirty d marks order (ended (answer_of r end.placed) end.marks end.order) ≡ ended (checked.Disorder placed slot) marks' order' → Finished (At slot) placed marks' order'
-      go (At s) d r u h = let a = ap (λ (x : Ended). x.answer) h in let z : ◌≡◌ {A = ℕ} 0 1 = cc in absurd (omega arith)
-      go Nothing d Nothing u h = let a = ap (λ (x : Ended). x.answer) h in let z : ◌≡◌ {A = ℕ} 0 1 = cc in absurd (omega arith)
-      go Nothing d (At s) u h =
+          → unless_dirty d marks order (ended (answer_of r end.placed) end.marks end.order) ≡ ended (Err (checked.Disorder placed slot)) marks' order' → Finished (Some slot) placed marks' order'
+      go (Some s) d r u h = let a = ap (λ (x : Ended). x.answer) h in let z : ◌≡◌ {A = ℕ} 0 1 = cc in absurd (omega arith)
+      go None d None u h = let a = ap (λ (x : Ended). x.answer) h in let z : ◌≡◌ {A = ℕ} 0 1 = cc in absurd (omega arith)
+      go None d (Some s) u h =
           let a = ap (λ (x : Ended). x.answer) h in
           let p : end.placed ≡ placed = cc in
           let q : s ≡ slot = cc in
-          finish (At slot) placed marks' order' d (u ∙ ap At q) p (ap (λ (x : Ended). x.marks) h) (ap (λ (x : Ended). x.order) h)
+          finish (Some slot) placed marks' order' d (u ∙ ap Some q) p (ap (λ (x : Ended). x.marks) h) (ap (λ (x : Ended). x.order) h)
 
-  pub dirty_end : (slot : ℕ) (marks' order' : List ℕ) → check_of table counts words flags marks order ≡ ended (checked.Dirty slot) marks' order' → first_from (dirty_at words flags) 0 table.n ≡ At slot
+  pub dirty_end : (slot : ℕ) (marks' order' : List ℕ) → check_of table counts words flags marks order ≡ ended (Err (checked.Dirty slot)) marks' order' → first_from (dirty_at words flags) 0 table.n ≡ Some slot
   unfolding audit_of take_all end_of
   dirty_end slot marks' order' e =
       go (first_from (dirty_at words flags) 0 table.n) (first_from (unplaced flags end.marks) 0 table.n) (sym (check_audit table counts words flags marks order l) ∙ e)
     where
-      go : (d r : First) → unless_dirty d marks order (ended (answer_of r end.placed) end.marks end.order) ≡ ended (checked.Dirty slot) marks' order' → d ≡ At slot
-      go (At s) r h = let a = ap (λ (x : Ended). x.answer) h in let q : s ≡ slot = cc in ap At q
-      go Nothing Nothing h = let a = ap (λ (x : Ended). x.answer) h in let z : ◌≡◌ {A = ℕ} 0 1 = cc in absurd (omega arith)
-      go Nothing (At s) h = let a = ap (λ (x : Ended). x.answer) h in let z : ◌≡◌ {A = ℕ} 0 1 = cc in absurd (omega arith)
+      go : (d r : First) → unless_dirty d marks order (ended (answer_of r end.placed) end.marks end.order) ≡ ended (Err (checked.Dirty slot)) marks' order' → d ≡ Some slot
+      go (Some s) r h = let a = ap (λ (x : Ended). x.answer) h in let q : s ≡ slot = cc in ap Some q
+      go None None h = let a = ap (λ (x : Ended). x.answer) h in let z : ◌≡◌ {A = ℕ} 0 1 = cc in absurd (omega arith)
+      go None (Some s) h = let a = ap (λ (x : Ended). x.answer) h in let z : ◌≡◌ {A = ℕ} 0 1 = cc in absurd (omega arith)
 
   -- a made image is accepted, with all its members placed
-  pub made_answer : Made table counts words flags → (check_of table counts words flags marks order).answer ≡ checked.Accepted (members flags)
+  pub made_answer : Made table counts words flags → (check_of table counts words flags marks order).answer ≡ Ok (members flags)
   unfolding audit_of take_all end_of
   made_answer m =
       ap (λ (x : Ended). x.answer) (check_audit table counts words flags marks order l)
-      ∙ rw (image_clean words flags table.n (made_clean m), all) (ap checked.Accepted (sym end_taking.number ∙ count))
+      ∙ rw (image_clean words flags table.n (made_clean m), all) (ap Ok (sym end_taking.number ∙ count))
     where
       whole : PartOf words flags words flags
       whole = record { occupied = λ s o. o; same = λ s o. refl }
@@ -192,7 +191,7 @@ module _ {table : FunnelTable} {counts words flags marks order : List ℕ} (l : 
       contains : (t : ℕ) → Occupied flags t → Occupied end.marks t
       contains t o = end_contains (made_members m) words flags whole m t o
 
-      all : first_from (unplaced flags end.marks) 0 table.n ≡ Nothing
+      all : first_from (unplaced flags end.marks) 0 table.n ≡ None
       all = first_all (unplaced flags end.marks) 0 table.n (λ t a b. go t (ℕ_discrete (get_or flags t 0) 0))
         where
           go : (t : ℕ) → Dec (get_or flags t 0 ≡ 0) → unplaced flags end.marks t ≡ false
@@ -203,7 +202,7 @@ module _ {table : FunnelTable} {counts words flags marks order : List ℕ} (l : 
       count = let a = members_part end.marks flags end_taking.part in let b = members_part flags end.marks contains in omega arith
 
   -- where no slot is left, the marks are the flags
-  pub accepted_marks : (placed : ℕ) (marks' order' : List ℕ) → Finished Nothing placed marks' order' → marks' ≡ flags
+  pub accepted_marks : (placed : ℕ) (marks' order' : List ℕ) → Finished None placed marks' order' → marks' ≡ flags
   accepted_marks placed marks' order' f = ext_get_or 0 marks' flags (f.turns.marks_n ∙ sym l.valid.flags_length) (λ t h. go t (ℕ_discrete (get_or flags t 0) 0) (ℕ_discrete (get_or marks' t 0) 0) (let q = f.turns.marks_n in omega arith))
     where
       go : (t : ℕ) → Dec (get_or flags t 0 ≡ 0) → Dec (get_or marks' t 0 ≡ 0) → t < table.n → get_or marks' t 0 ≡ get_or flags t 0

@@ -1,12 +1,11 @@
 -- What it is that an order of insertions leaves an image, and that an image is made. Assumes nothing.
-use Rattle.std.specs.Prelude.{List, [], ◌∷◌, ◌⊎◌, ◌≡◌, ℕ, ◌≤◌, get_or, eqb}
+use Rattle.std.specs.Prelude.{Ok, List, [], ◌∷◌, ◌⊎◌, ◌≡◌, ℕ, ◌≤◌, get_or, eqb}
 use Rattle.words.specs.Pick.{pick}
 use Rattle.words.specs.declared.place.Place.{Place}
 use Rattle.funnel.specs.declared.table.FunnelTable.{FunnelTable}
-use Rattle.funnel.specs.declared.table.Insertion.TheVariants as insertion
 use Rattle.funnel.specs.Fresh.{State, fresh, occupied}
 use Rattle.funnel.specs.Path.{slot_of}
-use Rattle.funnel.specs.Insert.{done, insert_of}
+use Rattle.funnel.specs.Insert.{reached, done, insert_of}
 
 -- An image is the words and the flags of a table of n slots. "Flag 0 is vacant, any other occupied".
 abbrev pub Occupied : (flags : List ℕ) → ℕ → Type 0
@@ -25,7 +24,7 @@ members flags = occupied flags
 pub data Inserts (counts : List ℕ) : FunnelTable → (words flags identities slots : List ℕ) → FunnelTable → (words' flags' : List ℕ) → Type 0 where
   none : {table : FunnelTable} {words flags : List ℕ} → Inserts counts table words flags [] [] table words flags
   one : {table table' table'' : FunnelTable} {words flags words' flags' words'' flags'' identities slots : List ℕ} {identity slot : ℕ} (probes : ℕ) (place : Place)
-      → insert_of table counts words flags identity ≡ done (insertion.Inserted probes place) table' words' flags' → slot_of place ≡ slot
+      → insert_of table counts words flags identity ≡ done (Ok (reached probes place)) table' words' flags' → slot_of place ≡ slot
       → Inserts counts table' words' flags' identities slots table'' words'' flags''
       → Inserts counts table words flags (identity ∷ identities) (slot ∷ slots) table'' words'' flags''
 

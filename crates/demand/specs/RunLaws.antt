@@ -2,14 +2,12 @@
 -- inserted. Assumes nothing.
 use mathlib.Core.List.{List, [], ◌∷◌, ◌++◌}
 use Rattle.std.proofs.Common.{⊎_elim, ap, sym, ◌∙◌}
-use Rattle.std.specs.Prelude.{◌≡◌, refl, ℕ, zero, suc, ◌+◌, ◌<◌, get_or, set, replicate}
+use Rattle.std.specs.Prelude.{Ok, ◌≡◌, refl, ℕ, zero, suc, ◌+◌, ◌<◌, get_or, set, replicate}
 use Rattle.words.specs.declared.place.Place.{Place}
 use Rattle.geometry.specs.declared.funnel.FunnelPlan.{FunnelPlan}
 use Rattle.funnel.specs.declared.table.FunnelTable.{FunnelTable}
-use Rattle.funnel.specs.declared.table.Insertion.{Insertion}
-use Rattle.funnel.specs.declared.table.Insertion.TheVariants as insertion
 use Rattle.funnel.specs.Path.{slot_of}
-use Rattle.funnel.specs.Insert.{Done, done, with_count, insert_of}
+use Rattle.funnel.specs.Insert.{Insertion, reached, Done, done, with_count, insert_of}
 use Rattle.funnel.proofs.InsertLaws.{Inserts as Changes, insert_changes, inserted_facts}
 use Rattle.funnel.specs.Fresh.{State, fresh, next, after}
 use Rattle.demand.specs.Made.{Inserts, none, one, Made}
@@ -27,7 +25,7 @@ ran_next counts from to identity r = ⊎_elim more still (insert_changes to.tabl
   where
     more : (k : ℕ) × (p : Place) × Changes to.table counts to.words to.flags identity k p → Ran counts from (next counts to identity)
     more c =
-        let a : (insert_of to.table counts to.words to.flags identity).answer ≡ insertion.Inserted c.0 c.1 = ap (λ (x : Done). x.answer) c.2.result in
+        let a : (insert_of to.table counts to.words to.flags identity).answer ≡ Ok (reached c.0 c.1) = ap (λ (x : Done). x.answer) c.2.result in
         record {
           identities = r.identities ++ (identity ∷ []);
           slots = r.slots ++ (slot_of c.1 ∷ []);

@@ -1,5 +1,5 @@
 -- Laws of the greedy order: what it keeps at each turn, what it has built, and that where it ends nothing is ready. Assumes nothing.
-use Rattle.std.specs.Prelude.{Bool, true, false, List, [], ◌∷◌, ◌++◌, ◌≡◌, refl, ℕ, zero, suc, ◌+◌, ◌≤◌, ◌<◌, length, get_or, set, take, drop, replicate, eqb}
+use Rattle.std.specs.Prelude.{Ok, Some, None, Bool, true, false, List, [], ◌∷◌, ◌++◌, ◌≡◌, refl, ℕ, zero, suc, ◌+◌, ◌≤◌, ◌<◌, length, get_or, set, take, drop, replicate, eqb}
 use Rattle.std.proofs.Common.{ap, sym, ◌∙◌, add-one, arith, length-set, take-suc-set, drop-set-lt, drop-drop}
 use Rattle.std.proofs.Math.ListN.{length-replicate}
 use Rattle.std.proofs.lemmas.Bool.{eqb-false}
@@ -7,13 +7,11 @@ use Rattle.words.specs.BytesLaws.{get_d_zeros}
 use Rattle.words.specs.Pick.{pick}
 use Rattle.words.specs.declared.place.Place.{Place}
 use Rattle.funnel.specs.declared.table.FunnelTable.{FunnelTable}
-use Rattle.funnel.specs.declared.table.Insertion.TheVariants as insertion
 use Rattle.funnel.specs.declared.table.Search.TheVariants.{Vacant}
 use Rattle.funnel.specs.Path.{slot_of}
 use Rattle.funnel.specs.Search.{table_path, find_of}
-use Rattle.funnel.specs.Insert.{done, with_count, insert_of}
-use Rattle.audit.specs.declared.slots.First.{First}
-use Rattle.audit.specs.declared.slots.First.TheVariants.{At, Nothing}
+use Rattle.funnel.specs.Insert.{reached, done, with_count, insert_of}
+use Rattle.audit.specs.Greedy.{First}
 use Rattle.funnel.proofs.InsertLaws.{insert_inserted}
 use Rattle.audit.specs.Greedy.{first_from, ready, taken, by_first, greedy_of}
 use Rattle.audit.specs.FirstLaws.{first_found, first_none}
@@ -41,14 +39,14 @@ greedy_keeps table counts words flags n (suc turns) P step marks order placed p 
         → P (by_first x (taken marks order placed) (λ s. greedy_of table counts words flags n turns (set marks s 1) (set order placed s) (placed + 1))).marks
         (by_first x (taken marks order placed) (λ s. greedy_of table counts words flags n turns (set marks s 1) (set order placed s) (placed + 1))).order
         (by_first x (taken marks order placed) (λ s. greedy_of table counts words flags n turns (set marks s 1) (set order placed s) (placed + 1))).placed
-    go Nothing q ih = p
-    go (At s) q ih = let f = first_found _ 0 n s q in ih s (step marks order placed s p (omega (arith, f.below)) f.holds)
+    go None q ih = p
+    go (Some s) q ih = let f = first_found _ 0 n s q in ih s (step marks order placed s p (omega (arith, f.below)) f.holds)
 
 -- ---- one insertion more
 
 pub inserts_snoc : {counts : List ℕ} {table table' table'' : FunnelTable} {words flags words' flags' words'' flags'' identities slots : List ℕ} (identity slot probes : ℕ) (place : Place)
     → Inserts counts table words flags identities slots table' words' flags'
-    → insert_of table' counts words' flags' identity ≡ done (insertion.Inserted probes place) table'' words'' flags'' → slot_of place ≡ slot
+    → insert_of table' counts words' flags' identity ≡ done (Ok (reached probes place)) table'' words'' flags'' → slot_of place ≡ slot
     → Inserts counts table words flags (identities ++ (identity ∷ [])) (slots ++ (slot ∷ [])) table'' words'' flags''
 inserts_snoc identity slot probes place none h at = one probes place h at none
 inserts_snoc identity slot probes place (one k p e a r) h at = one k p e a (inserts_snoc identity slot probes place r h at)
@@ -92,7 +90,7 @@ module _ (table : FunnelTable) (counts : List ℕ) (below : (identity : ℕ) →
   -- the insertion of a ready slot into the placed part as an image
   ready_inserts : (marks : List ℕ) (placed s : ℕ) → length marks ≡ table.n → s < table.n → (r : Ready table counts words flags marks placed s)
       → insert_of (with_count table placed) counts (placed_words words marks) marks (get_or words s 0)
-      ≡ done (insertion.Inserted r.probes r.place) (with_count table (placed + 1)) (placed_words words (set marks s 1)) (set marks s 1)
+      ≡ done (Ok (reached r.probes r.place)) (with_count table (placed + 1)) (placed_words words (set marks s 1)) (set marks s 1)
   ready_inserts marks placed s l h r =
       let m : length words ≡ length marks = sized ∙ sym l in
       let f : find_of table counts (placed_words words marks) marks (get_or words s 0) ≡ Vacant r.probes r.place =
@@ -155,8 +153,8 @@ greedy_ends table counts words flags n (suc turns) marks order placed l m s h =
         → ready table counts words flags (greedy_of table counts words flags n turns ms (set order placed t) (placed + 1)).marks (greedy_of table counts words flags n turns ms (set order placed t) (placed + 1)).placed s ≡ false)
         → ready table counts words flags (by_first x (taken marks order placed) (λ t. greedy_of table counts words flags n turns (set marks t 1) (set order placed t) (placed + 1))).marks
         (by_first x (taken marks order placed) (λ t. greedy_of table counts words flags n turns (set marks t 1) (set order placed t) (placed + 1))).placed s ≡ false
-    go Nothing q ih = first_none _ 0 n q s (omega arith) (omega arith)
-    go (At t) q ih =
+    go None q ih = first_none _ 0 n q s (omega arith) (omega arith)
+    go (Some t) q ih =
         let d = first_found _ 0 n t q in
         let r = ready_facts table counts words flags marks placed t d.holds in
         let b : t < length marks = omega (arith, d.below) in

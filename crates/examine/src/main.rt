@@ -14,7 +14,7 @@
 //
 //     main.rt      arguments and the file
 //     table.rt     from the bytes of an image to a loaded table
-//     verdict.rt   what the check says of it, as numbers
+//     verdict.rt   what the check says of it
 //
 // What is printed of it is `examine_words`, which is proved beside the calls.
 // It uses the public calls alone: `load_image`, `check`, `search`.
@@ -26,7 +26,7 @@ mod verdict;
 
 ghost use Rattle.std.specs.Prelude.{◌≤◌, length};
 
-use examine_words::say::put_text;
+use examine_words::say::Escaped;
 use funnel_calls::calls::MOST_WORDS;
 use std::alloc::Global;
 use std::env::{Env, FillError};
@@ -35,8 +35,8 @@ use std::io::Read;
 use std::rt::Files;
 use table::{examine, refuse_length};
 use text::buffers::{MOST_BYTES, image_buffer};
-use text::field::{OneWord, decimal};
-use text::out::{flush, put};
+use text::field::decimal;
+use text::out::Out;
 
 // The word cap where none is given.
 const USUAL_CAP: u64 = 8;
@@ -50,26 +50,24 @@ const NO_TEXT: i32 = 84;
 const NO_ERROR: i32 = 0;
 
 fn main(rt: HostRuntime) {
-    let mut out = io::large_buffer();
-    report(&rt, &mut out);
-}
-
-fn report<R: Env + Files + AllocGlobal>(rt: &R, out: &mut [u8]) {
-    let at = run(rt, out);
-    flush(out, at);
+    let mut out = Out::new();
+    run(&rt, &mut out);
+    out.flush();
 }
 
 // The arguments, and then the file that the first one names.
-fn run<R: Env + Files + AllocGlobal>(rt: &R, out: &mut [u8]) -> usize {
+fn run<R: Env + Files + AllocGlobal>(rt: &R, out: &mut Out) {
     let count = arg_count(rt);
-    if count < 2 || 3 < count {
-        return misuse_by(count, out);
+    if count < 2 {
+        misuse("no image is named", out);
+    } else if 3 < count {
+        misuse("there are more than two arguments", out);
+    } else {
+        match word_cap(rt, count) {
+            Some(cap) => examine_named(rt, cap, out),
+            None => misuse("the word cap is not a number from 1 to 256", out),
+        }
     }
-    let cap = word_cap(rt, count);
-    if cap == 0 {
-        return misuse(b"the word cap is not a number from 1 to 256", out, 0);
-    }
-    examine_named(rt, cap, out)
 }
 
 // How many arguments there are, the name of the program among them.
@@ -91,65 +89,48 @@ fn is_arg<R: Env>(rt: &R, i: usize) -> bool {
     }
 }
 
-fn misuse_by(count: usize, out: &mut [u8]) -> usize {
-    if count < 2 {
-        return misuse(b"no image is named", out, 0);
-    }
-    misuse(b"there are more than two arguments", out, 0)
-}
-
-fn examine_named<R: Env + Files + AllocGlobal>(rt: &R, cap: u64, out: &mut [u8]) -> usize {
+fn examine_named<R: Env + Files + AllocGlobal>(rt: &R, cap: u64, out: &mut Out) {
     let mut path = io::buffer();
-    let Ok(length) = rt.arg(1, &mut path) else {
-        return misuse(b"the name of the file is too long", out, 0);
-    };
-    examine_file(rt, &path[..length], cap, out)
+    match rt.arg(1, &mut path) {
+        Ok(length) => examine_file(rt, &path[..length], cap, out),
+        Err(_) => misuse("the name of the file is too long", out),
+    }
 }
 
 // What is wrong, and how to use the program.
-fn misuse(why: &[u8], out: &mut [u8], at: usize) -> usize {
-    let mut to = put(out, at, b"misuse      ");
-    to = put(out, to, why);
-    put_usage(out, to)
+fn misuse(why: &str, out: &mut Out) {
+    writeln!(out, "misuse      {why}");
+    put_usage(out);
 }
 
-fn put_usage(out: &mut [u8], at: usize) -> usize {
-    let to = put(out, at, b"\nusage       examine IMAGE [WORDCAP]\n");
-    put(
-        out,
-        to,
-        b"            IMAGE names a file, WORDCAP is a number from 1 to 256, 8 if none is given\n",
-    )
+fn put_usage(out: &mut Out) {
+    writeln!(out, "usage       examine IMAGE [WORDCAP]");
+    write!(out, "            IMAGE names a file, ");
+    writeln!(out, "WORDCAP is a number from 1 to 256, 8 if none is given");
 }
 
-// The word cap that the second argument gives, 0 where that is none.
-fn word_cap<R: Env>(rt: &R, count: usize) -> u64 {
+// The word cap that the second argument gives, or none.
+fn word_cap<R: Env>(rt: &R, count: usize) -> Option<u64> {
     if count < 3 {
-        return USUAL_CAP;
+        return Some(USUAL_CAP);
     }
     let mut text = io::buffer();
-    let Ok(length) = rt.arg(2, &mut text) else {
-        return 0;
-    };
-    parse_cap(&text[..length])
+    match rt.arg(2, &mut text) {
+        Ok(length) => parse_cap(&text[..length]),
+        Err(_) => None,
+    }
 }
 
-fn parse_cap(text: &[u8]) -> u64 {
-    let OneWord::Value(cap) = decimal(text, 0, text.len()) else {
-        return 0;
-    };
-    if MOST_WORDS < cap {
-        return 0;
-    }
-    cap
+fn parse_cap(text: &[u8]) -> Option<u64> {
+    decimal(text).filter(|cap| 0 < *cap && *cap <= MOST_WORDS)
 }
 
 // The library opens a file by a name in UTF-8 alone.
-fn examine_file<R: Files + AllocGlobal>(rt: &R, path: &[u8], cap: u64, out: &mut [u8]) -> usize {
+fn examine_file<R: Files + AllocGlobal>(rt: &R, path: &[u8], cap: u64, out: &mut Out) {
     match std::str::from_utf8(path) {
         Err(_) => {
             let why = std::io::Error::from_raw_os_error(NO_TEXT);
-            unreadable(rt.alloc(), path, &why, out)
+            unreadable(rt.alloc(), path, &why, out);
         }
         Ok(name) => match fs::open(rt, name) {
             Err(why) => unreadable(rt.alloc(), path, &why, out),
@@ -159,12 +140,10 @@ fn examine_file<R: Files + AllocGlobal>(rt: &R, path: &[u8], cap: u64, out: &mut
 }
 
 // Standard error has the system's reason.
-fn unreadable(alloc: Global, path: &[u8], why: &std::io::Error, out: &mut [u8]) -> usize {
+fn unreadable(alloc: Global, path: &[u8], why: &std::io::Error, out: &mut Out) {
     tell(alloc, path, why);
-    let mut to = put(out, 0, b"misuse      the file \"");
-    to = put_text(path, out, to);
-    to = put(out, to, b"\" cannot be read");
-    put_usage(out, to)
+    writeln!(out, "misuse      the file \"{}\" cannot be read", Escaped(path));
+    put_usage(out);
 }
 
 // The name, a colon and the system's words.
@@ -190,10 +169,10 @@ fn examine_open<F: Read + Drop>(
     path: &[u8],
     mut file: F,
     cap: u64,
-    out: &mut [u8],
-) -> usize {
+    out: &mut Out,
+) {
     let mut image = image_buffer();
-    examine_read(alloc, path, &mut file, cap, &mut image, out)
+    examine_read(alloc, path, &mut file, cap, &mut image, out);
 }
 
 // The buffer holds one byte more than the largest image, which tells a longer file.
@@ -203,11 +182,12 @@ fn examine_read<F: Read>(
     file: &mut F,
     cap: u64,
     image: &mut [u8],
-    out: &mut [u8],
-) -> usize {
+    out: &mut Out,
+) {
     let length = read_full(file, image);
     if MOST_BYTES < length {
-        return refuse_length(&image[..length], out);
+        refuse_length(&image[..length], out);
+        return;
     }
     match not_at_end(file) {
         Some(why) => unreadable(alloc, path, &why, out),

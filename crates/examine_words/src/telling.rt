@@ -1,7 +1,7 @@
-// A verdict, as plain numbers and in words.
-use crate::say::{put_gate, put_identity, put_numbered};
+// A verdict, as values and in words.
+use crate::say::{Identity, put_gate};
 use refusal::{Gate, Name};
-use text::out::{put, put_form};
+use text::out::Out;
 
 // What the check says of a table.
 #[derive(Clone, Copy)]
@@ -22,161 +22,105 @@ pub struct Stuck {
     pub met: Met,
 }
 
-// What a search meets: its kind, and a number.
+// What a search of the whole table for the unplaced identity meets.
 #[derive(Clone, Copy)]
-pub struct Met {
-    pub kind: u8,
-    pub number: u64,
+pub enum Met {
+    Gate(Gate),
+    Vacant { slot: u64 },
+    // Neither a vacancy nor the identity: it read its whole path.
+    OffPath,
+    // All of these words were rejected.
+    Range { words: u64 },
+    // The identity at another slot.
+    Copy { slot: u64 },
+    // The identity in its slot.
+    Reached(Reason),
 }
 
-// A refusal of the gate by its number.
-pub const GATE: u8 = b'g';
-
-// A vacancy, at a slot.
-pub const VACANT: u8 = b'v';
-
-// Neither a vacancy nor the identity: it read its whole path.
-pub const OFF_PATH: u8 = b'o';
-
-// RANGE, with its words.
-pub const RANGE: u8 = b'r';
-
-// The identity at another slot.
-pub const COPY: u8 = b'c';
-
-// The identity in its slot, and, over the placed part, a vacancy at a slot.
-pub const BLOCKED: u8 = b'b';
-
-// The identity in its slot, and the maximum is placed without it.
-pub const FULL: u8 = b'f';
-
-// The identity in its slot, and nothing that says why it is not placed.
-pub const REACHED: u8 = b's';
-
-// The identity in its slot, and over the placed part a refusal of the gate by its number.
-pub const UNASKED: u8 = b'u';
+// Why a member that is found in its slot is not placed.
+#[derive(Clone, Copy)]
+pub enum Reason {
+    // The maximum is placed without it.
+    Full,
+    // Over the placed part, a search for it meets a vacancy at a slot.
+    Blocked { slot: u64 },
+    // Over the placed part, a search for it is refused by the gate.
+    Unasked(Gate),
+    // Nothing says it.
+    Unknown,
+}
 
 // A verdict on a table of so many members, of which it can have a maximum.
-pub fn put_verdict(found: Verdict, count: u64, maximum: u64, out: &mut [u8], at: usize) -> usize {
+pub fn put_verdict(found: Verdict, count: u64, maximum: u64, out: &mut Out) {
     match found {
         Verdict::Accepted => {
-            put(
-                out,
-                at,
-                b"accepted    some order of insertions makes this table\n",
-            )
+            writeln!(out, "accepted    some order of insertions makes this table");
         }
-        Verdict::Gate(gate) => put_gate(gate, out, at),
-        Verdict::Dirty { slot } => put_dirty(slot, out, at),
-        Verdict::Disorder(stuck) => put_disorder(stuck, count, maximum, out, at),
+        Verdict::Gate(gate) => put_gate(gate, out),
+        Verdict::Dirty { slot } => {
+            let number = refusal::number(Name::Dirty);
+            writeln!(out, "dirty       DIRTY ({number}): no table has slot {slot} as it is here");
+        }
+        Verdict::Disorder(stuck) => put_disorder(stuck, count, maximum, out),
     }
 }
 
-fn put_dirty(slot: u64, out: &mut [u8], at: usize) -> usize {
-    put_form(
-        out,
-        at,
-        b"dirty       DIRTY (#): no table has slot # as it is here\n",
-        [refusal::number(Name::Dirty), slot, 0, 0],
-    )
-}
-
-fn put_disorder(stuck: Stuck, count: u64, maximum: u64, out: &mut [u8], at: usize) -> usize {
-    let mut to = put_placed(stuck.placed, count, maximum, out, at);
-    to = put_stuck(stuck.slot, stuck.identity, out, to);
-    put_met(stuck.slot, stuck.met, out, to)
+fn put_disorder(stuck: Stuck, count: u64, maximum: u64, out: &mut Out) {
+    put_placed(stuck.placed, count, maximum, out);
+    let slot = stuck.slot;
+    write!(out, "unplaced    slot {slot} is the first that could not be placed; ");
+    writeln!(out, "it holds identity {}", Identity(stuck.identity));
+    put_met(slot, stuck.met, out);
 }
 
 // How many could be placed, and whether there are too many.
-fn put_placed(placed: u64, count: u64, maximum: u64, out: &mut [u8], at: usize) -> usize {
-    let to = put_form(
-        out,
-        at,
-        b"disordered  DISORDER (#): no order of insertions makes this table\nplaced      # of # members\n",
-        [refusal::number(Name::Disorder), placed, count, 0],
-    );
-    if count <= maximum {
-        return to;
+fn put_placed(placed: u64, count: u64, maximum: u64, out: &mut Out) {
+    let number = refusal::number(Name::Disorder);
+    writeln!(out, "disordered  DISORDER ({number}): no order of insertions makes this table");
+    writeln!(out, "placed      {placed} of {count} members");
+    if maximum < count {
+        writeln!(out, "too many    {count} members are more than the maximum of {maximum}");
     }
-    put_form(
-        out,
-        to,
-        b"too many    # members are more than the maximum of #\n",
-        [count, maximum, 0, 0],
-    )
 }
 
-fn put_stuck(slot: u64, identity: u64, out: &mut [u8], at: usize) -> usize {
-    let to = put_form(
-        out,
-        at,
-        b"unplaced    slot # is the first that could not be placed; it holds identity ",
-        [slot, 0, 0, 0],
-    );
-    put_identity(identity, out, to)
+// A vacancy is the case that splits samples: what is not found is entered again.
+fn put_met(slot: u64, met: Met, out: &mut Out) {
+    if let Met::Gate(gate) = met {
+        put_gate(gate, out);
+        return;
+    }
+    write!(out, "search      a search for it ");
+    match met {
+        Met::Vacant { slot: vacant } => {
+            write!(out, "stops at slot {vacant}, which is vacant, ");
+            writeln!(out, "so it is not found in slot {slot}");
+        }
+        Met::OffPath => {
+            write!(out, "meets no vacancy and does not find it: ");
+            writeln!(out, "slot {slot} is not on its path");
+        }
+        Met::Range { words } => {
+            let number = refusal::number(Name::Range);
+            write!(out, "is refused: RANGE ({number}), all of {words} words rejected; ");
+            writeln!(out, "a larger word cap may do");
+        }
+        Met::Copy { slot: other } => {
+            writeln!(out, "finds it at slot {other}: the identity stands in the table twice");
+        }
+        Met::Reached(reason) => put_reason(reason, out),
+        Met::Gate(_) => {}
+    }
 }
 
-// What a search of the whole table for the unplaced identity meets. A vacancy is the case that splits samples: what is not
-// found is entered again.
-fn put_met(slot: u64, met: Met, out: &mut [u8], at: usize) -> usize {
-    if met.kind == GATE {
-        return put_numbered(met.number, out, at);
+fn put_reason(reason: Reason, out: &mut Out) {
+    write!(out, "finds it in its slot");
+    match reason {
+        Reason::Full => writeln!(out, ", but the maximum is placed without it"),
+        Reason::Unasked(gate) => put_gate(gate, out),
+        Reason::Unknown => writeln!(out, ", but no order of insertions puts it there"),
+        Reason::Blocked { slot } => {
+            write!(out, ", but no order of insertions puts it there: ");
+            writeln!(out, "on its way it passes slot {slot}, whose member could not be placed either");
+        }
     }
-    if met.kind == VACANT {
-        return put_form(
-            out,
-            at,
-            b"search      a search for it stops at slot #, which is vacant, so it is not found in slot #\n",
-            [met.number, slot, 0, 0],
-        );
-    }
-    if met.kind == OFF_PATH {
-        return put_form(
-            out,
-            at,
-            b"search      a search for it meets no vacancy and does not find it: slot # is not on its path\n",
-            [slot, 0, 0, 0],
-        );
-    }
-    put_found(met, out, at)
-}
-
-fn put_found(met: Met, out: &mut [u8], at: usize) -> usize {
-    if met.kind == RANGE {
-        return put_form(
-            out,
-            at,
-            b"search      a search for it is refused: RANGE (#), all of # words rejected; a larger word cap may do\n",
-            [refusal::number(Name::Range), met.number, 0, 0],
-        );
-    }
-    if met.kind == COPY {
-        return put_form(
-            out,
-            at,
-            b"search      a search for it finds it at slot #: the identity stands in the table twice\n",
-            [met.number, 0, 0, 0],
-        );
-    }
-    let to = put(out, at, b"search      a search for it finds it in its slot");
-    put_reached(met, out, to)
-}
-
-fn put_reached(met: Met, out: &mut [u8], at: usize) -> usize {
-    if met.kind == FULL {
-        return put(out, at, b", but the maximum is placed without it\n");
-    }
-    if met.kind == UNASKED {
-        return put_numbered(met.number, out, at);
-    }
-    let to = put(out, at, b", but no order of insertions puts it there");
-    if met.kind == BLOCKED {
-        return put_form(
-            out,
-            to,
-            b": on its way it passes slot #, whose member could not be placed either\n",
-            [met.number, 0, 0, 0],
-        );
-    }
-    put(out, to, b"\n")
 }

@@ -9,6 +9,7 @@ use words::power::floor_div_pow2;
 pub const LARGEST_N: u64 = 4294967296;
 
 // The tests that every layout begins with, in their order: N, ZEROEXP, SIZE.
+#[tactic(auto, unfolding(crate::specs::Config::config_then))]
 pub fn config_gate(n: u64, e: u32) -> Result<(), Gate>
     ensures { result ≡ config_gate n e }
 {

@@ -35,6 +35,7 @@ pub fn elastic_plan(
 }
 
 // Whether every number of a plan is that of n and e.
+#[tactic(auto, using(words::specs::LogLaws::log_computed), unfolding(crate::specs::Elastic::is_plan_of))]
 pub fn is_elastic_plan(n: u64, e: u32, plan: ElasticPlan) -> bool
     ensures { result ≡ is_plan_of n e plan }
 {
@@ -49,6 +50,7 @@ pub fn level_offset(n: u64, level: u64) -> u64
 }
 
 // The length of a level, where `last` is the number of the last one.
+#[tactic(auto, unfolding(crate::specs::Elastic::level_length))]
 pub fn level_length(n: u64, last: u64, level: u64) -> u64
     ensures { result ≡ level_length (last - level) (n / 2 ^ level) }
 {
@@ -100,6 +102,7 @@ fn fill(n: u64, e: u32, levels: u64, maximum: u64, lengths: &mut [u64; 32], quot
 }
 
 // The length of level i where `rest` slots remain.
+#[tactic(auto, unfolding(crate::specs::Elastic::next_length, crate::specs::Elastic::level_length))]
 pub fn next_length(levels: u64, i: u64, rest: u64) -> u64
     ensures { result ≡ next_length (levels - i) rest }
 {
@@ -120,6 +123,7 @@ fn ceil_three_quarters(x: u64) -> u64
 }
 
 // The quota of batch i, where level i has length `new`, the level before it `before`, and `spare` of the maximum is left.
+#[tactic(auto, using(crate::specs::ElasticLaws::reserve_quarter), unfolding(crate::specs::Elastic::next_quota))]
 fn next_quota(levels: u64, i: u64, e: u32, before: u64, new: u64, spare: u64) -> u64
     requires { (0 < e) × (before ≤ 4294967296) × (new ≤ 4294967296) }
     ensures { result ≡ next_quota (levels - i) e before new spare }

@@ -51,6 +51,7 @@ pub fn smallest_funnel(
 }
 
 // The tests N, ZEROEXP, SIZE, EXPONENT of the question.
+#[tactic(auto, unfolding(crate::specs::Smallest::smallest_gate))]
 pub fn smallest_gate(e: u32, first: u64, last: u64) -> Result<(), Gate>
     ensures { result ≡ smallest_gate e first last }
 {
@@ -70,6 +71,7 @@ pub fn smallest_gate(e: u32, first: u64, last: u64) -> Result<(), Gate>
 }
 
 // The smallest n alone. No exponent above 27 has a layout, and no table takes more than its slots.
+#[tactic(auto, using(crate::specs::SearchLaws::found_exponent, crate::specs::SearchLaws::found_count, crate::specs::SearchLaws::found_first))]
 fn smallest_slots(count: u64, e: u64, first: u64, last: u64) -> Option<u64>
     requires { (3 ≤ e) × (last ≤ 4294967296) }
     ensures { SlotsFound count e first last result }

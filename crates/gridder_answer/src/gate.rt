@@ -5,6 +5,7 @@ ghost use Rattle.gridder_answer.specs.Gate.{block_gate};
 use refusal::Gate;
 
 // What the tests before say, and where they pass, whether a block has its length.
+#[tactic(auto, unfolding(crate::specs::Gate::block_gate))]
 pub fn block_gate(before: Result<(), Gate>, given: usize, wanted: usize) -> Result<(), Gate>
     ensures { result ≡ block_gate before given wanted }
 {

@@ -1,12 +1,10 @@
 -- The exported placement of many identities: its gate, and what it answers and leaves. Assumes nothing.
-use Rattle.std.specs.Prelude.{Bool, not, false, List, [], ℕ, ◌/◌, ◌%◌, eqb, leb, length}
+use Rattle.std.specs.Prelude.{Ok, Err, Bool, not, false, List, [], ℕ, ◌/◌, ◌%◌, eqb, leb, length}
 use Rattle.refusal.specs.Table.{number_of, name_of}
 use Rattle.refusal.specs.declared.Gate.TheVariants as gate
 use Rattle.refusal.specs.declared.Name.TheVariants as name
 use Rattle.words.specs.Pick.{pick}
-use Rattle.geometry.specs.Config.{refuse_if}
-use Rattle.geometry.specs.declared.config.Gated.{Gated}
-use Rattle.geometry.specs.declared.config.Gated.TheVariants.{Passed, Refused}
+use Rattle.geometry.specs.Config.{Gated, refuse_if}
 use Rattle.funnel.specs.Calls.{gate_then, placement_report}
 use Rattle.funnel.specs.Insert.{Placed, place_all_of}
 use Rattle.funnel.specs.declared.table.FunnelTable.{FunnelTable}
@@ -22,7 +20,7 @@ room_for identities slots = pick (eqb (identities % 8) 0) (pick (eqb (slots % 8)
 -- the tests of a placement: the slots' buffer must have room for each identity
 unfoldable pub place_call_gate : FunnelTable → List ℕ → (words flags identities slots answer : ℕ) → Gated
 place_call_gate table counts words flags identities slots answer =
-    gate_then (call_gate table counts words flags answer) (refuse_if (not (room_for identities slots)) gate.State Passed)
+    gate_then (call_gate table counts words flags answer) (refuse_if (not (room_for identities slots)) gate.State (Ok tt))
 
 -- what a placement leaves
 pub record AllLeft : Type 0 where
@@ -39,8 +37,8 @@ all_left number answer state words flags slots =
 
 -- the slots as far as it came, and the count in the block, also where an identity is refused
 unfoldable pub place_left : (answer state words flags slots : List ℕ) → Gated → (total : ℕ) → Placed → AllLeft
-place_left answer state words flags slots (Refused g) total d = all_left (number_of (name_of g)) (saying answer []) state words flags slots
-place_left answer state words flags slots Passed total d =
+place_left answer state words flags slots (Err g) total d = all_left (number_of (name_of g)) (saying answer []) state words flags slots
+place_left answer state words flags slots (Ok _) total d =
     all_left (placement_report d.answer).number (says (placement_fields d.answer total)) (with_count_in state d.table.count) d.words d.flags
     d.slots
 

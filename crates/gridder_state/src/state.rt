@@ -21,6 +21,7 @@ const COUNT: usize = 40;
 const COUNTS: usize = 136;
 
 // Whether a block holds a funnel table.
+#[tactic(auto, unfolding(crate::specs::State::holds_kind))]
 pub fn holds_funnel(state: &[u8]) -> bool
     ensures { result ≡ holds_funnel state.now }
 {

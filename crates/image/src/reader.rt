@@ -31,6 +31,17 @@ pub struct Outline {
     pub count: usize,
 }
 
+// The body of a field whose length is right: where it stands in the image, under which tag, and its length.
+#[derive(Drop)]
+struct Body<'a> {
+    image: &'a [u8],
+    tag: u8,
+    at: usize,
+    len: usize,
+    ghost within: { at + len ≤ length image.now },
+    ghost right: { right_length fields tag len ≡ true },
+}
+
 // What an image says, or the place where it is malformed.
 pub fn read(image: &[u8]) -> Result<Outline, usize>
     ensures { result ≡ outcome_of (read_of image.now) }
@@ -39,18 +50,23 @@ pub fn read(image: &[u8]) -> Result<Outline, usize>
     loop {
         let at = c.at;
         let Field { tag, len } = frame(image, c.low, at)?;
-        let body = at + 3;
-        let Some(floor) = content_at(image, c, tag, body, len) else {
+        let body = Body {
+            image,
+            tag,
+            at: at + 3,
+            len,
+        };
+        let Some(floor) = content_in(&body, c) else {
             return Err(at);
         };
         if tag == 6 {
-            let next = body + len;
+            let next = body.at + len;
             if next < image.len() {
                 return Err(next);
             }
             return Ok(outline_of(c));
         }
-        c = took(image, c, tag, body, len, floor);
+        c = took(&body, c, floor);
     }
 }
 
@@ -85,15 +101,20 @@ fn outline_of(c: Cursor) -> Outline
     }
 }
 
-// The least slot that may follow a body at `at`, if its content is right: only slots and the count can be wrong.
-fn content_at(image: &[u8], c: Cursor, tag: u8, at: usize, len: usize) -> Option<u64>
-    requires { (at + len ≤ length image.now) × (right_length fields tag len ≡ true) }
-    ensures { result ≡ content_of image.now c tag at len }
+// The least slot that may follow a body, if its content is right: only slots and the count can be wrong.
+fn content_in(body: &Body, c: Cursor) -> Option<u64>
+    ensures { result ≡ content_of body.now.image.now c body.now.tag body.now.at body.now.len }
 {
-    if tag == 5 {
-        return rise(image, c.head.n, c.floor, at, len / ENTRY_SIZE);
+    if body.tag == 5 {
+        return rise(
+            body.image,
+            c.head.n,
+            c.floor,
+            body.at,
+            body.len / ENTRY_SIZE,
+        );
     }
-    if tag == 6 && read64(image, at) != c.count as u64 {
+    if body.tag == 6 && read64(body.image, body.at) != c.count as u64 {
         return None;
     }
     Some(c.floor)
@@ -118,44 +139,42 @@ fn rise(image: &[u8], n: u64, floor: u64, at: usize, count: usize) -> Option<u64
     Some(low)
 }
 
-// The cursor past a field whose body stands at `at`.
-fn took(image: &[u8], c: Cursor, tag: u8, at: usize, len: usize, floor: u64) -> Cursor
-    requires { (at + len ≤ length image.now) × (right_length fields tag len ≡ true) × (c.count + len / entry_size < 2 ^ 64) }
-    ensures { result ≡ took_of image.now c tag at len floor }
+// The cursor past a field.
+fn took(body: &Body, c: Cursor, floor: u64) -> Cursor
+    requires { c.count + body.now.len / entry_size < 2 ^ 64 }
+    ensures { result ≡ took_of body.now.image.now c body.now.tag body.now.at body.now.len floor }
 {
-    let head = named(image, c.head, tag, at, len);
     let mut t = c;
-    t.head = head;
-    t.low = low_after(tag, len);
-    t.at = at + len;
-    if tag == 4 {
-        t.label_at = at;
-        t.label_len = len;
+    t.head = named(body, c.head);
+    t.low = low_after(body.tag, body.len);
+    t.at = body.at + body.len;
+    if body.tag == 4 {
+        t.label_at = body.at;
+        t.label_len = body.len;
         return t;
     }
-    if tag == 5 {
-        t.count = t.count + len / ENTRY_SIZE;
+    if body.tag == 5 {
+        t.count += body.len / ENTRY_SIZE;
         t.floor = floor;
     }
     t
 }
 
-// What names the table, with a body at `at` under a tag.
-fn named(image: &[u8], head: Head, tag: u8, at: usize, len: usize) -> Head
-    requires { (at + len ≤ length image.now) × (right_length fields tag len ≡ true) }
-    ensures { result ≡ told_head image.now head tag at }
+// What names the table, with a body.
+fn named(body: &Body, head: Head) -> Head
+    ensures { result ≡ told_head body.now.image.now head body.now.tag body.now.at }
 {
     let mut h = head;
-    if tag == 1 {
-        h.n = read64(image, at);
+    if body.tag == 1 {
+        h.n = read64(body.image, body.at);
         return h;
     }
-    if tag == 2 {
-        h.e = read32(image, at);
+    if body.tag == 2 {
+        h.e = read32(body.image, body.at);
         return h;
     }
-    if tag == 3 {
-        h.seed = read64(image, at);
+    if body.tag == 3 {
+        h.seed = read64(body.image, body.at);
     }
     h
 }

@@ -1,10 +1,11 @@
 -- Loading: the second pass over a right image, and the outcomes. Assumes nothing.
 use Rattle.std.proofs.Math.Path.{◌≡◌}
-use Rattle.std.specs.Prelude.{refl, List, [], ℕ, suc, ◌+◌, ◌-◌, ◌/◌, ◌≤◌, length, replicate, eqb}
+use Rattle.std.specs.Prelude.{Ok, Err, Bool, not, ◌&&◌, refl, List, [], ℕ, suc, ◌+◌, ◌-◌, ◌/◌, ◌≤◌, length, replicate, eqb}
 use Rattle.std.proofs.Common.{ap, sym, ◌∙◌}
 use Rattle.std.proofs.Math.Bool.{true, false}
 use native.Mathlib.Omega.{arith}
 use borrow.Author.Tests.{eqb-true}
+use Rattle.words.specs.Pick.{pick}
 use Rattle.image.specs.Cursor.{outline_of, outcome_of}
 use Rattle.image_calls.specs.Fill.{fill_words, fill_flags, entries_in, slots_in, is_good, Fills, Fits}
 use Rattle.image_calls.specs.FillLaws.{fill_words_append, fill_flags_append, length_fill_words, length_fill_flags}
@@ -12,15 +13,13 @@ use Rattle.image.specs.Format.{entry_size, fields}
 use Rattle.image.specs.FrameLaws.{Framing, framing}
 use Rattle.image.specs.Head.{unnamed, same_head}
 use Rattle.image.specs.KindLaws.{low_past}
-use Rattle.image_calls.specs.Loading.{loads, load_good, load_after, load_of}
-use Rattle.image.specs.Reading.{low_after, frame_of, entries_at, floor_after, Seen, seen, told, right_content, Reading, bad, good, read_from, read_of}
+use Rattle.image_calls.specs.Loading.{filled, loads, load_good, load_after, load_of}
+use Rattle.image.specs.Reading.{low_after, framed, frame_of, entries_at, floor_after, Seen, seen, told, right_content, Reading, bad, good, read_from, read_of}
 use Rattle.image.specs.ReadingLaws.{good_wrong, good_content, good_next, good_last, good_n, told_n, told_five, told_other}
 use Rattle.image.specs.TestLaws.{cases, not_both}
-use Rattle.image.specs.declared.field.Framed.TheVariants.{Wrong, Field}
-use Rattle.image_calls.specs.declared.loader.Filled.TheVariants as filled
+use Rattle.image_calls.specs.declared.loader.LoadRefusal.TheVariants as refusal
 use Rattle.image.specs.declared.head.Head.{Head}
 use Rattle.image.specs.declared.reader.Outline.{Outline}
-use Rattle.image.specs.declared.reader.Outcome.TheVariants.{Bad, Good}
 
 -- what a reading with this head is
 record GoodAs (h : Outline) (r : Reading) : Type 0 where
@@ -51,13 +50,13 @@ onward_none b words flags h w f = go (read_of b) refl h w f
         record { g = g; s = seen unnamed 0 0 []; fuel = suc (length b); whole = e; left = e; within = omega arith; words_are = refl; flags_are = refl; in_words = w; in_flags = f }
 
 module _ {b words₀ flags₀ : List ℕ} {low at : ℕ} {words flags : List ℕ} (l : Onward b words₀ flags₀ low at words flags) where
-  pub onward_wrong : {P : Type 0} (p : ℕ) → frame_of fields b low at ≡ Wrong p → P
+  pub onward_wrong : {P : Type 0} (p : ℕ) → frame_of fields b low at ≡ Err p → P
   onward_wrong p w = good_wrong b l.s l.g low at l.fuel p l.left w
 
   pub onward_sizes : (length words ≡ length words₀) × (length flags ≡ length flags₀)
   onward_sizes = (rw l.words_are (length_fill_words words₀ l.s.entries), rw l.flags_are (length_fill_flags flags₀ l.s.entries))
 
-  module _ (tag len : ℕ) (w : frame_of fields b low at ≡ Field tag len) where
+  module _ (tag len : ℕ) (w : frame_of fields b low at ≡ Ok (framed tag len)) where
     pub onward_framing : Framing fields b low at tag len
     onward_framing = framing fields b low at tag len w
 
@@ -109,14 +108,39 @@ module _ {b words₀ flags₀ : List ℕ} {low at : ℕ} {words flags : List ℕ
           let e = told_other b l.s tag (at + 3) len m in
           onto_next words flags (rw e l.words_are) (rw e l.flags_are)
 
+-- ---- two heads held against one another
+
+same_is : (a b : Head) → same_head a b ≡ (eqb a.n b.n && (eqb a.e b.e && eqb a.seed b.seed))
+unfolding same_head
+same_is a b = go (eqb a.n b.n) (eqb a.e b.e) (eqb a.seed b.seed)
+  where
+    go : (x y z : Bool) → pick x (pick y z false) false ≡ (x && (y && z))
+    go true true z = refl
+    go true false z = refl
+    go false y z = refl
+
+pub head_differs : (a b : Head) (r : Bool) → r ≡ not (eqb a.n b.n && (eqb a.e b.e && eqb a.seed b.seed)) → r ≡ true → same_head a b ≡ false
+head_differs a b r e t = same_is a b ∙ go (eqb a.n b.n && (eqb a.e b.e && eqb a.seed b.seed)) (sym e ∙ t)
+  where
+    go : (x : Bool) → not x ≡ true → x ≡ false
+    go true h = not_both (sym h)
+    go false h = refl
+
+pub head_equal : (a b : Head) (r : Bool) → r ≡ not (eqb a.n b.n && (eqb a.e b.e && eqb a.seed b.seed)) → r ≡ false → same_head a b ≡ true
+head_equal a b r e t = same_is a b ∙ go (eqb a.n b.n && (eqb a.e b.e && eqb a.seed b.seed)) (sym e ∙ t)
+  where
+    go : (x : Bool) → not x ≡ false → x ≡ true
+    go true h = refl
+    go false h = not_both h
+
 -- ---- the outcomes
 
 -- a right image with this head
-module _ (image : List ℕ) (h : Outline) (r : outcome_of (read_of image) ≡ Good h) where
+module _ (image : List ℕ) (h : Outline) (r : outcome_of (read_of image) ≡ Ok h) where
   what_good : GoodAs h (read_of image)
   what_good = go (read_of image) r
     where
-      go : (x : Reading) → outcome_of x ≡ Good h → GoodAs h x
+      go : (x : Reading) → outcome_of x ≡ Ok h → GoodAs h x
       go (bad p) k = let z : ◌≡◌ {A = ℕ} 0 1 = cc in absurd (omega arith)
       go (good s) k = record { s = s; is = refl; outline = (let q : outline_of s ≡ h = cc in q) }
 
@@ -132,26 +156,26 @@ module _ (image : List ℕ) (h : Outline) (r : outcome_of (read_of image) ≡ Go
       ∙ cases (eqb h.head.n hd.n) (λ t. eqb-true _ _ t) (λ f. let z : false ≡ true = rw f at o in not_both (sym z)))
 
 module _ (hd : Head) (words flags image : List ℕ) where
-  pub loads_bad : (place : ℕ) → outcome_of (read_of image) ≡ Bad place → loads (filled.Image place) words flags ≡ load_of hd words flags image
+  pub loads_bad : (place : ℕ) → outcome_of (read_of image) ≡ Err place → loads (Err (refusal.Image place)) words flags ≡ load_of hd words flags image
   unfolding load_of load_after
   loads_bad place h = go (read_of image) h
     where
-      go : (r : Reading) → outcome_of r ≡ Bad place → loads (filled.Image place) words flags ≡ load_after hd words flags r
+      go : (r : Reading) → outcome_of r ≡ Err place → loads (Err (refusal.Image place)) words flags ≡ load_after hd words flags r
       go (bad p) h = let q : p ≡ place = cc in rw q
       go (good s) h = let z : ◌≡◌ {A = ℕ} 0 1 = cc in absurd (omega arith)
 
-  module _ (h : Outline) (r : outcome_of (read_of image) ≡ Good h) where
-    pub loads_foreign : same_head h.head hd ≡ false → loads filled.Foreign words flags ≡ load_of hd words flags image
+  module _ (h : Outline) (r : outcome_of (read_of image) ≡ Ok h) where
+    pub loads_foreign : same_head h.head hd ≡ false → loads (Err refusal.Foreign) words flags ≡ load_of hd words flags image
     unfolding load_of load_after
     loads_foreign f = let g = what_good image h r in let k = rw (← g.outline) at f in rw (g.is, k)
 
     pub loads_done : same_head h.head hd ≡ true → (words' flags' : List ℕ)
         → Fills (replicate (length words) 0) (replicate (length flags) 0) (entries_in (read_of image)) words' flags'
-        → loads (filled.Done h.count h.label_at h.label_len) words' flags' ≡ load_of hd words flags image
+        → loads (Ok (filled h.count h.label_at h.label_len)) words' flags' ≡ load_of hd words flags image
     unfolding load_of load_after load_good
     loads_done o words' flags' f = go (read_of image) r f
       where
-        go : (x : Reading) → outcome_of x ≡ Good h → Fills (replicate (length words) 0) (replicate (length flags) 0) (entries_in x) words' flags'
-            → loads (filled.Done h.count h.label_at h.label_len) words' flags' ≡ load_after hd words flags x
+        go : (x : Reading) → outcome_of x ≡ Ok h → Fills (replicate (length words) 0) (replicate (length flags) 0) (entries_in x) words' flags'
+            → loads (Ok (filled h.count h.label_at h.label_len)) words' flags' ≡ load_after hd words flags x
         go (bad p) k f = let z : ◌≡◌ {A = ℕ} 0 1 = cc in absurd (omega arith)
         go (good s) k f = let q : outline_of s ≡ h = cc in let d = rw (← q) at o in rw (f.words_are_lem, f.flags_are_lem, ← q, d)

@@ -1,5 +1,5 @@
 -- The image of a table is read as what was written. Assumes nothing.
-use Rattle.std.specs.Prelude.{◌≡◌, refl, Bool, true, false, get_or, take, drop, eqb, ltb, leb}
+use Rattle.std.specs.Prelude.{Ok, ◌≡◌, refl, Bool, true, false, get_or, take, drop, eqb, ltb, leb}
 use Rattle.std.proofs.Math.Path.{ap}
 use Rattle.std.proofs.Common.{sym, ◌∙◌, mod-eq_of_lt, length-take, length-drop, take-append-drop, drop-drop, drop_at, take_at, get_or-drop}
 use mathlib.Core.List.{List, [], ◌∷◌, ◌++◌, append_assoc, append-nil}
@@ -13,14 +13,13 @@ use Rattle.words.specs.BytesLaws.{num_bytes, length_bytes}
 use Rattle.image.specs.Format.{entry_size, field_entries, field_bytes, kind, fields, Entry, body_of, field_of, label_field, entry_fields, fields_for, image_of}
 use Rattle.image.specs.Head.{headed, unnamed}
 use Rattle.image.specs.KindLaws.{fits_is}
-use Rattle.image.specs.Reading.{rank_of, may_come, right_tag, kind_at, fits, right_length, low_behind, low_after, frame_of, entries_at, rising, floor_after, Seen, seen, told_head, told, right_content, good, end_of, field_then, read_from, read_of}
+use Rattle.image.specs.Reading.{framed, rank_of, may_come, right_tag, kind_at, fits, right_length, low_behind, low_after, frame_of, entries_at, rising, floor_after, Seen, seen, told_head, told, right_content, good, end_of, field_then, read_from, read_of}
 use Rattle.image.specs.FrameLaws.{frame_field}
 use Rattle.image.specs.CursorLaws.{floor_append}
 use Rattle.image.specs.TestLaws.{cases}
 use Rattle.image_writer.specs.EntryFieldLaws.{length_body}
 use Rattle.image_writer.specs.ImageLaws.{length_field}
 use Rattle.image_laws.specs.WriteAfterRead.{plus, plus_none}
-use Rattle.image.specs.declared.field.Framed.TheVariants.{Field}
 use Rattle.image.specs.declared.head.Head.{Head}
 
 -- ---- what stands at an offset
@@ -74,7 +73,7 @@ module _ (b : List ℕ) (at tag : ℕ) (body r : List ℕ) (d : drop at b ≡ fi
       let w = past_within b at (3 + length body) (field_of tag body) r l (omega arith) d in
       omega arith
 
-  frame_is : (low : ℕ) → right_tag fields low tag ≡ true → right_length fields tag (length body) ≡ true → length body < 65536 → frame_of fields b low at ≡ Field tag (length body)
+  frame_is : (low : ℕ) → right_tag fields low tag ≡ true → right_length fields tag (length body) ≡ true → length body < 65536 → frame_of fields b low at ≡ Ok (framed tag (length body))
   frame_is low t l s =
       let z : at + 0 ≡ at = omega arith in
       let g : get_or b at 0 ≡ tag = sym (get_or-drop at b 0 0 ∙ rw z) ∙ ap (λ (x : List ℕ). get_or x 0 0) split in
@@ -83,7 +82,7 @@ module _ (b : List ℕ) (at tag : ℕ) (body r : List ℕ) (d : drop at b ≡ fi
       let h : at + 3 ≤ length b = omega arith in
       sym (frame_field fields b low at h (rw g t) (rw (g, n) l) (rw n w)) ∙ rw (g, n)
 
-module _ (b : List ℕ) (s : Seen) (low at tag len : ℕ) (w : frame_of fields b low at ≡ Field tag len) (c : right_content b s tag (at + 3) len ≡ true) where
+module _ (b : List ℕ) (s : Seen) (low at tag len : ℕ) (w : frame_of fields b low at ≡ Ok (framed tag len)) (c : right_content b s tag (at + 3) len ≡ true) where
   read_more : (f : ℕ) → eqb tag 6 ≡ false → read_from b (suc f) s low at ≡ read_from b f (told b s tag (at + 3) len) (low_after fields tag len) (at + 3 + len)
   unfolding read_from field_then
   read_more f n = rw (w, c, n)
@@ -144,7 +143,7 @@ last_reads b f low at s six few d =
     let N : ℕ = length s.entries in
     let l : length (bytes_of 8 (length s.entries)) ≡ 8 = length_bytes 8 (length s.entries) in
     let d0 : drop at b ≡ field_of 6 (bytes_of 8 (length s.entries)) ++ [] = d ∙ sym (append-nil _) in
-    let w : frame_of fields b low at ≡ Field 6 8 = rw l at (frame_is b at 6 (bytes_of 8 (length s.entries)) [] d0 low six (rw l) (omega arith)) in
+    let w : frame_of fields b low at ≡ Ok (framed 6 8) = rw l at (frame_is b at 6 (bytes_of 8 (length s.entries)) [] d0 low six (rw l) (omega arith)) in
     let n : num_at b (at + 3) 8 ≡ length s.entries = num_is b (at + 3) 8 (length s.entries) [] (body_is b at 6 (bytes_of 8 (length s.entries)) [] d0) few in
     let z : drop (at + 3 + 8) b ≡ [] = rw l at (next_is b at 6 (bytes_of 8 (length s.entries)) [] d0) in
     let y : length b - (at + 3 + 8) ≡ 0 = sym (length-drop (at + 3 + 8) b) ∙ ap length z in
@@ -187,7 +186,7 @@ tail_reads b (suc k) (suc f) low at s es e kf six five fit rise few d =
     let most : length (take field_entries es) ≤ field_entries = omega arith in
     let d1 : drop at b ≡ field_of 5 (body_of (take field_entries es)) ++ (entry_fields k (drop field_entries es) ++ field_of 6 (bytes_of 8 (length (s.entries ++ es)))) = d ∙ append_assoc (field_of 5 (body_of (take field_entries es))) (entry_fields k (drop field_entries es)) (field_of 6 (bytes_of 8 (length (s.entries ++ es)))) in
     let lb : length (body_of (take field_entries es)) ≡ entry_size * length (take field_entries es) = length_body (take field_entries es) in
-    let w : frame_of fields b low at ≡ Field 5 (entry_size * length (take field_entries es)) =
+    let w : frame_of fields b low at ≡ Ok (framed 5 (entry_size * length (take field_entries es))) =
     rw lb at (frame_is b at 5 (body_of (take field_entries es)) _ d1 low (five (omega arith)) (rw lb (right_len_5 (length (take field_entries es)) pos most)) (omega arith)) in
     let q : entry_size * length (take field_entries es) / entry_size ≡ length (take field_entries es) = omega arith in
     let ea : entries_at b (at + 3) (length (take field_entries es)) ≡ take field_entries es = entries_is b (at + 3) (take field_entries es) _ (fit_take field_entries es fit) (body_is b at 5 (body_of (take field_entries es)) _ d1) in
@@ -214,7 +213,7 @@ module _ (b : List ℕ) (f : ℕ) (s : Seen) (tag k x at : ℕ) (r : List ℕ) (
   unfolding right_content
   stage_reads low t l m n5 n6 =
       let e : length (bytes_of k x) ≡ k = length_bytes k x in
-      let w : frame_of fields b low at ≡ Field tag k = rw e at (frame_is b at tag (bytes_of k x) r d low t (rw e l) (rw e m)) in
+      let w : frame_of fields b low at ≡ Ok (framed tag k) = rw e at (frame_is b at tag (bytes_of k x) r d low t (rw e l) (rw e m)) in
       read_more b s low at tag k w (rw (n5, n6)) f n6
 
 -- ---- the whole image
@@ -252,7 +251,7 @@ rest_reads b (suc f) hd (x ∷ label) es v h d =
     let l = v.short in
     let a : 1 ≤ length (x ∷ label) = omega arith in
     let m : length (x ∷ label) % 1 ≡ 0 = omega arith in
-    let w : frame_of fields b 3 29 ≡ Field 4 (length (x ∷ label)) = frame_is b 29 4 (x ∷ label) _ d 3 refl (fits_is (kind 4 false 1 64 1 false) (length (x ∷ label)) m a l) (omega arith) in
+    let w : frame_of fields b 3 29 ≡ Ok (framed 4 (length (x ∷ label))) = frame_is b 29 4 (x ∷ label) _ d 3 refl (fits_is (kind 4 false 1 64 1 false) (length (x ∷ label)) m a l) (omega arith) in
     read_more b (seen hd 0 0 []) 3 29 4 (length (x ∷ label)) w refl f refl
     ∙ tail_reads b (fields_for (length es)) f 4 (32 + length (x ∷ label)) (seen hd 32 (length (x ∷ label)) []) es refl (omega arith) refl (λ y. refl) v.fit v.rise v.few
     (next_is b 29 4 (x ∷ label) _ d)

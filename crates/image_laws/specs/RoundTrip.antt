@@ -1,5 +1,5 @@
 -- The two round trips, over the definitions that the writer and the loader are proved to follow. Assumes nothing.
-use Rattle.std.specs.Prelude.{◌≡◌, Bool, true, false, get_or, drop, replicate, eqb, ltb}
+use Rattle.std.specs.Prelude.{Result, Ok, Err, ◌≡◌, Bool, true, false, get_or, drop, replicate, eqb, ltb}
 use Rattle.std.proofs.Math.Path.{refl}
 use Rattle.std.proofs.Common.{ap, sym, ◌∙◌, take_at}
 use mathlib.Core.List.{List, ◌∷◌}
@@ -15,14 +15,13 @@ use Rattle.image_calls.specs.Fill.{fill_words, fill_flags}
 use Rattle.image.specs.Format.{Entry, entry, label_most, entries_from, entries_of, image_of}
 use Rattle.image.specs.Head.{headed, same_head}
 use Rattle.image.specs.declared.head.Head.{Head}
-use Rattle.image_calls.specs.Loading.{Loads, loads, load_good, load_after, load_of}
+use Rattle.image_calls.specs.Loading.{filled, Loads, loads, load_good, load_after, load_of}
 use Rattle.image.specs.Reading.{rising, Seen, Reading, bad, good, read_of}
 use Rattle.image.specs.TestLaws.{not_both}
 use Rattle.image_writer.specs.Writing.{Writes, writes, onto, write_after, write_of}
-use Rattle.image_writer.specs.declared.dirty.Scan.{Scan}
-use Rattle.image_writer.specs.declared.dirty.Scan.TheVariants.{Dirty, Clean}
-use Rattle.image_calls.specs.declared.loader.Filled.TheVariants as filled
-use Rattle.image_writer.specs.declared.writer.Written.TheVariants as written
+use Rattle.image_calls.specs.declared.loader.Filled.{Filled}
+use Rattle.image_calls.specs.declared.loader.LoadRefusal.TheVariants as refusal
+use Rattle.image_writer.specs.declared.writer.WriteRefusal.TheVariants as write_refusal
 use Rattle.image_laws.specs.ReadAfterWrite.{Fit, none, one, Valid, label_place, read_after_write}
 use Rattle.image_laws.specs.TableLaws.{fill_words_entries, fill_flags_entries, entries_rise, entries_filled, scan_filled}
 use Rattle.image_laws.specs.WriteAfterRead.{write_after_read}
@@ -38,11 +37,11 @@ pub record Machine (hd : Head) (words : List ℕ) : Type 0 where
 
 record WroteAll (words flags image out : List ℕ) (len : ℕ) (out' : List ℕ) : Type 0 where
   count : ℕ
-  clean : scan_of words flags ≡ Clean count
+  clean : scan_of words flags ≡ Ok count
   length_is : len ≡ length image
   out_is : out' ≡ onto image out
 
-wrote_all : (hd : Head) (label words flags out : List ℕ) (len : ℕ) (out' : List ℕ) → write_of hd label words flags out ≡ writes (written.Done len) out'
+wrote_all : (hd : Head) (label words flags out : List ℕ) (len : ℕ) (out' : List ℕ) → write_of hd label words flags out ≡ writes (Ok len) out'
     → WroteAll words flags (image_of hd label (entries_of words flags)) out len out'
 unfolding write_of write_after
 wrote_all hd label words flags out len out' h = go (scan_of words flags) refl h
@@ -50,16 +49,16 @@ wrote_all hd label words flags out len out' h = go (scan_of words flags) refl h
     image : List ℕ
     image = image_of hd label (entries_of words flags)
 
-    done : (c : ℕ) → scan_of words flags ≡ Clean c → (z : Bool) → pick z (writes (written.Room (length image)) out) (writes (written.Done (length image)) (onto image out)) ≡ writes (written.Done len) out' → WroteAll words flags image out len out'
-    done c e true h = let q : written.Room (length image) ≡ written.Done len = ap (λ (w : Writes). w.answer) h in let z : ◌≡◌ {A = ℕ} 0 1 = cc in absurd (omega arith)
+    done : (c : ℕ) → scan_of words flags ≡ Ok c → (z : Bool) → pick z (writes (Err (write_refusal.Room (length image))) out) (writes (Ok (length image)) (onto image out)) ≡ writes (Ok len) out' → WroteAll words flags image out len out'
+    done c e true h = let q : Err (write_refusal.Room (length image)) ≡ Ok len = ap (λ (w : Writes). w.answer) h in let z : ◌≡◌ {A = ℕ} 0 1 = cc in absurd (omega arith)
     done c e false h =
-        let q : written.Done (length image) ≡ written.Done len = ap (λ (w : Writes). w.answer) h in
+        let q : Ok (length image) ≡ Ok len = ap (λ (w : Writes). w.answer) h in
         let l : length image ≡ len = cc in
         record { count = c; clean = e; length_is = sym l; out_is = sym (ap (λ (w : Writes). w.out) h) }
 
-    go : (s : Scan) → scan_of words flags ≡ s → write_after s image out ≡ writes (written.Done len) out' → WroteAll words flags image out len out'
-    go (Dirty s) e h = let q : written.Dirty (record { 0 = s }) ≡ written.Done len = ap (λ (w : Writes). w.answer) h in let z : ◌≡◌ {A = ℕ} 0 1 = cc in absurd (omega arith)
-    go (Clean c) e h = done c e (ltb (length out) (length image)) h
+    go : (s : Result ℕ ℕ) → scan_of words flags ≡ s → write_after s image out ≡ writes (Ok len) out' → WroteAll words flags image out len out'
+    go (Err s) e h = let q : Err (write_refusal.Dirty (record { 0 = s })) ≡ Ok len = ap (λ (w : Writes). w.answer) h in let z : ◌≡◌ {A = ℕ} 0 1 = cc in absurd (omega arith)
+    go (Ok c) e h = done c e (ltb (length out) (length image)) h
 
 -- ---- what the writer wrote, the loader reads back
 
@@ -91,9 +90,9 @@ module _ (hd : Head) (label words flags : List ℕ) (m : Machine hd words) (lw :
       }
 
   -- what the writer wrote the loader reads back: the same words and flags, the number of entries, and the label's place
-  pub load_after_write : (out : List ℕ) (len : ℕ) (out' : List ℕ) → write_of hd label words flags out ≡ writes (written.Done len) out'
+  pub load_after_write : (out : List ℕ) (len : ℕ) (out' : List ℕ) → write_of hd label words flags out ≡ writes (Ok len) out'
       → (words₀ flags₀ : List ℕ) → length words₀ ≡ hd.n → length flags₀ ≡ hd.n
-      → load_of hd words₀ flags₀ (take len out') ≡ loads (filled.Done (length (entries_of words flags)) (label_place label) (length label)) words flags
+      → load_of hd words₀ flags₀ (take len out') ≡ loads (Ok (filled (length (entries_of words flags)) (label_place label) (length label))) words flags
   unfolding load_of load_after load_good same_head
   load_after_write out len out' h words₀ flags₀ l₀ k₀ =
       let w = wrote_all hd label words flags out len out' h in
@@ -133,18 +132,19 @@ same_head_lem a b h = go (eqb a.n b.n) refl (eqb a.e b.e) refl (eqb a.seed b.see
     go false p y q z r h = not_both (sym h)
 
 pub loaded_all : (hd : Head) (words flags image : List ℕ) (count label_at label_len : ℕ) (words' flags' : List ℕ)
-    → load_of hd words flags image ≡ loads (filled.Done count label_at label_len) words' flags' → LoadedAll hd words flags image count label_at label_len words' flags'
+    → load_of hd words flags image ≡ loads (Ok (filled count label_at label_len)) words' flags' → LoadedAll hd words flags image count label_at label_len words' flags'
 unfolding load_of load_after load_good
 loaded_all hd words flags image count la ll words' flags' h = go (read_of image) refl h
   where
     done : (s : Seen) → read_of image ≡ good s → (z : Bool) → same_head s.head hd ≡ z
-        → pick z (load_good words flags s) (loads filled.Foreign words flags) ≡ loads (filled.Done count la ll) words' flags' → LoadedAll hd words flags image count la ll words' flags'
-    done s r false o h = let q : filled.Foreign ≡ filled.Done count la ll = ap (λ (w : Loads). w.answer) h in let z : ◌≡◌ {A = ℕ} 0 1 = cc in absurd (omega arith)
+        → pick z (load_good words flags s) (loads (Err refusal.Foreign) words flags) ≡ loads (Ok (filled count la ll)) words' flags' → LoadedAll hd words flags image count la ll words' flags'
+    done s r false o h = let q : Err refusal.Foreign ≡ Ok (filled count la ll) = ap (λ (w : Loads). w.answer) h in let z : ◌≡◌ {A = ℕ} 0 1 = cc in absurd (omega arith)
     done s r true o h =
-        let q : filled.Done (length s.entries) s.label_at s.label_len ≡ filled.Done count la ll = ap (λ (w : Loads). w.answer) h in
-        let d : length s.entries ≡ count = cc in
-        let a : s.label_at ≡ la = cc in
-        let l : s.label_len ≡ ll = cc in
+        let q : Ok (filled (length s.entries) s.label_at s.label_len) ≡ Ok (filled count la ll) = ap (λ (w : Loads). w.answer) h in
+        let k : filled (length s.entries) s.label_at s.label_len ≡ filled count la ll = cc in
+        let d : length s.entries ≡ count = ap (λ (x : Filled). x.count) k in
+        let a : s.label_at ≡ la = ap (λ (x : Filled). x.label_at) k in
+        let l : s.label_len ≡ ll = ap (λ (x : Filled). x.label_len) k in
         record {
           s = s;
           read = r;
@@ -156,8 +156,8 @@ loaded_all hd words flags image count la ll words' flags' h = go (read_of image)
           flags_are_lem = sym (ap (λ (w : Loads). w.flags) h);
         }
 
-    go : (r : Reading) → read_of image ≡ r → load_after hd words flags r ≡ loads (filled.Done count la ll) words' flags' → LoadedAll hd words flags image count la ll words' flags'
-    go (bad p) r h = let q : filled.Image p ≡ filled.Done count la ll = ap (λ (w : Loads). w.answer) h in let z : ◌≡◌ {A = ℕ} 0 1 = cc in absurd (omega arith)
+    go : (r : Reading) → read_of image ≡ r → load_after hd words flags r ≡ loads (Ok (filled count la ll)) words' flags' → LoadedAll hd words flags image count la ll words' flags'
+    go (bad p) r h = let q : Err (refusal.Image p) ≡ Ok (filled count la ll) = ap (λ (w : Loads). w.answer) h in let z : ◌≡◌ {A = ℕ} 0 1 = cc in absurd (omega arith)
     go (good s) r h = done s r (same_head s.head hd) refl h
 
 image_again : (image : List ℕ) (s : Seen) (hd : Head) (la ll : ℕ) → s.head ≡ hd → la ≡ s.label_at → ll ≡ s.label_len
@@ -166,15 +166,15 @@ image_again image s hd la ll p a l h = rw (← p, a, l) (sym h)
 
 write_filled : (hd : Head) (label image words flags out : List ℕ) (es : List Entry) → rising hd.n 0 es ≡ true
     → words ≡ fill_words (replicate hd.n 0) es → flags ≡ fill_flags (replicate hd.n 0) es
-    → image_of hd label es ≡ image → length image ≤ length out → write_of hd label words flags out ≡ writes (written.Done (length image)) (onto image out)
+    → image_of hd label es ≡ image → length image ≤ length out → write_of hd label words flags out ≡ writes (Ok (length image)) (onto image out)
 unfolding write_of write_after
 write_filled hd label image words flags out es r w f b room = rw (w, f, scan_filled hd.n es r, entries_filled hd.n es r, b, le-ltb _ _ room)
 
 -- whatever the loader accepts, the writer writes again byte for byte for the same label, where the output has room
 pub write_after_load : (hd : Head) (words flags image : List ℕ) → Bytes image → length words ≡ hd.n → length flags ≡ hd.n
-    → (count label_at label_len : ℕ) (words' flags' : List ℕ) → load_of hd words flags image ≡ loads (filled.Done count label_at label_len) words' flags'
+    → (count label_at label_len : ℕ) (words' flags' : List ℕ) → load_of hd words flags image ≡ loads (Ok (filled count label_at label_len)) words' flags'
     → (out : List ℕ) → length image ≤ length out
-    → write_of hd (take label_len (drop label_at image)) words' flags' out ≡ writes (written.Done (length image)) (onto image out)
+    → write_of hd (take label_len (drop label_at image)) words' flags' out ≡ writes (Ok (length image)) (onto image out)
 write_after_load hd words flags image B lw lf count la ll words' flags' h out room =
     let g = loaded_all hd words flags image count la ll words' flags' h in
     let i = write_after_read image B g.s g.read in

@@ -1,5 +1,5 @@
 -- A table and its entries: a clean table is filled from its entries, and entries that rise are those of the table they fill. Assumes nothing.
-use Rattle.std.specs.Prelude.{◌≡◌, refl, Bool, true, false, List, [], ◌∷◌, ◌++◌, ℕ, zero, suc, ◌+◌, ◌<◌, ◌≤◌, get_or, take, set, replicate, eqb, ltb}
+use Rattle.std.specs.Prelude.{Ok, Err, ◌≡◌, refl, Bool, true, false, List, [], ◌∷◌, ◌++◌, ℕ, zero, suc, ◌+◌, ◌<◌, ◌≤◌, get_or, take, set, replicate, eqb, ltb}
 use Rattle.std.proofs.Math.Path.{ap}
 use Rattle.std.proofs.Common.{sym, ◌∙◌, append-nil, length-set, take-suc, take_all, length-take-le, get_or-set_same, get_or-set_other, eqb-true, ltb-true, ltb-false, le-leb, lt-ltb}
 use native.Mathlib.Omega.{arith}
@@ -15,7 +15,6 @@ use Rattle.image_calls.specs.FillLaws.{risen_head, length_fill_flags}
 use Rattle.image.specs.Format.{Entry, entry, entries_from, entries_of}
 use Rattle.image.specs.Reading.{rising}
 use Rattle.image.specs.TestLaws.{cases, not_both}
-use Rattle.image_writer.specs.declared.dirty.Scan.TheVariants.{Dirty, Clean}
 
 -- ---- a clean slot
 
@@ -38,13 +37,13 @@ clean_taken words flags s h z =
 
 record CleanAt (words flags : List ℕ) (s k c m : ℕ) : Type 0 where
   here : dirty_at words flags s ≡ false
-  rest : scan_from words flags (suc s) k (pick (eqb (get_or flags s 0) 0) c (c + 1)) ≡ Clean m
+  rest : scan_from words flags (suc s) k (pick (eqb (get_or flags s 0) 0) c (c + 1)) ≡ Ok m
 
-clean_at : (words flags : List ℕ) (s k c m : ℕ) → scan_from words flags s (suc k) c ≡ Clean m → CleanAt words flags s k c m
+clean_at : (words flags : List ℕ) (s k c m : ℕ) → scan_from words flags s (suc k) c ≡ Ok m → CleanAt words flags s k c m
 unfolding scan_from
 clean_at words flags s k c m h = go (dirty_at words flags s) refl h
   where
-    go : (d : Bool) → dirty_at words flags s ≡ d → pick d (Dirty s) (scan_from words flags (suc s) k (pick (eqb (get_or flags s 0) 0) c (c + 1))) ≡ Clean m → CleanAt words flags s k c m
+    go : (d : Bool) → dirty_at words flags s ≡ d → pick d (Err s) (scan_from words flags (suc s) k (pick (eqb (get_or flags s 0) 0) c (c + 1))) ≡ Ok m → CleanAt words flags s k c m
     go true e h = let z : ◌≡◌ {A = ℕ} 0 1 = cc in absurd (omega arith)
     go false e h = record { here = e; rest = h }
 
@@ -63,7 +62,7 @@ module _ (xs : List ℕ) (s k : ℕ) (h : s < length xs) where
 put_all : (xs : List ℕ) (s : ℕ) → s + 0 ≡ length xs → take s xs ++ replicate 0 0 ≡ xs
 put_all xs s h = let l : length xs ≤ s = omega arith in append-nil (take s xs) ∙ take_all s xs l
 
-fill_words_from : (words flags : List ℕ) (k s c m : ℕ) → s + k ≡ length words → scan_from words flags s k c ≡ Clean m
+fill_words_from : (words flags : List ℕ) (k s c m : ℕ) → s + k ≡ length words → scan_from words flags s k c ≡ Ok m
     → fill_words (take s words ++ replicate k 0) (entries_from words flags s k) ≡ words
 unfolding fill_words entries_from
 fill_words_from words flags zero s c m h q = put_all words s h
@@ -76,12 +75,12 @@ fill_words_from words flags (suc k) s c m h q = go (eqb (get_or flags s 0) 0) re
     l = omega arith
 
     go : (z : Bool) → eqb (get_or flags s 0) 0 ≡ z
-        → ((c m : ℕ) → suc s + k ≡ length words → scan_from words flags (suc s) k c ≡ Clean m → fill_words (take (suc s) words ++ replicate k 0) (entries_from words flags (suc s) k) ≡ words)
+        → ((c m : ℕ) → suc s + k ≡ length words → scan_from words flags (suc s) k c ≡ Ok m → fill_words (take (suc s) words ++ replicate k 0) (entries_from words flags (suc s) k) ≡ words)
         → fill_words (take s words ++ replicate (suc k) 0) (pick z (entries_from words flags (suc s) k) (entry s (get_or words s 0) ∷ entries_from words flags (suc s) k)) ≡ words
     go true e ih = rw (put_kept words s k l (clean_vacant words flags s a.here e)) (ih _ _ (omega arith) a.rest)
     go false e ih = ap (λ (x : List ℕ). fill_words x (entries_from words flags (suc s) k)) (put_set words s k l (get_or words s 0) refl) ∙ ih _ _ (omega arith) a.rest
 
-fill_flags_from : (words flags : List ℕ) (k s c m : ℕ) → s + k ≡ length flags → scan_from words flags s k c ≡ Clean m
+fill_flags_from : (words flags : List ℕ) (k s c m : ℕ) → s + k ≡ length flags → scan_from words flags s k c ≡ Ok m
     → fill_flags (take s flags ++ replicate k 0) (entries_from words flags s k) ≡ flags
 unfolding fill_flags entries_from
 fill_flags_from words flags zero s c m h q = put_all flags s h
@@ -94,12 +93,12 @@ fill_flags_from words flags (suc k) s c m h q = go (eqb (get_or flags s 0) 0) re
     l = omega arith
 
     go : (z : Bool) → eqb (get_or flags s 0) 0 ≡ z
-        → ((c m : ℕ) → suc s + k ≡ length flags → scan_from words flags (suc s) k c ≡ Clean m → fill_flags (take (suc s) flags ++ replicate k 0) (entries_from words flags (suc s) k) ≡ flags)
+        → ((c m : ℕ) → suc s + k ≡ length flags → scan_from words flags (suc s) k c ≡ Ok m → fill_flags (take (suc s) flags ++ replicate k 0) (entries_from words flags (suc s) k) ≡ flags)
         → fill_flags (take s flags ++ replicate (suc k) 0) (pick z (entries_from words flags (suc s) k) (entry s (get_or words s 0) ∷ entries_from words flags (suc s) k)) ≡ flags
     go true e ih = rw (put_kept flags s k l (eqb-true _ _ e)) (ih _ _ (omega arith) a.rest)
     go false e ih = ap (λ (x : List ℕ). fill_flags x (entries_from words flags (suc s) k)) (put_set flags s k l 1 (clean_taken words flags s a.here e)) ∙ ih _ _ (omega arith) a.rest
 
-module _ (words flags : List ℕ) (c : ℕ) (h : scan_of words flags ≡ Clean c) (l : length words ≡ length flags) where
+module _ (words flags : List ℕ) (c : ℕ) (h : scan_of words flags ≡ Ok c) (l : length words ≡ length flags) where
   pub fill_words_entries : fill_words (replicate (length words) 0) (entries_of words flags) ≡ words
   unfolding scan_of entries_of
   fill_words_entries = rw l (fill_words_from words flags (length flags) 0 0 c (omega arith) h)
@@ -170,7 +169,7 @@ vacant_set xs s a v = record { zeros = λ i h. let d : i ≡ s → ⊥ = (λ e. 
 -- the entries from slot s on, and that they are clean
 record Holds (words flags : List ℕ) (s k c : ℕ) (es : List Entry) : Type 0 where
   entries : entries_from words flags s k ≡ es
-  scan : scan_from words flags s k c ≡ Clean (c + length es)
+  scan : scan_from words flags s k c ≡ Ok (c + length es)
 
 -- a vacant slot, and an occupied one
 holds_vacant : (words flags : List ℕ) (s k c : ℕ) (es : List Entry) → get_or words s 0 ≡ 0 → get_or flags s 0 ≡ 0 → Holds words flags (suc s) k c es → Holds words flags s (suc k) c es
@@ -181,12 +180,12 @@ holds_taken : (words flags : List ℕ) (s k c x : ℕ) (es : List Entry) → get
 unfolding entries_from scan_from dirty_at
 holds_taken words flags s k c x es w f h =
     let m : c + 1 + length es ≡ c + suc (length es) = omega arith in
-    record { entries = rw (f, w, h.entries); scan = rw f (h.scan ∙ ap Clean m) }
+    record { entries = rw (f, w, h.entries); scan = rw f (h.scan ∙ ap Ok m) }
 
 holds_fill : (n k s c : ℕ) (words flags : List ℕ) (es : List Entry) → s + k ≡ n → length words ≡ n → length flags ≡ n → Vacant words s → Vacant flags s → rising n s es ≡ true
     → Holds (fill_words words es) (fill_flags flags es) s k c es
 unfolding fill_words fill_flags entries_from scan_from
-holds_fill n zero s c words flags [] h lw lf vw vf r = let m : c ≡ c + 0 = omega arith in record { entries = refl; scan = ap Clean m }
+holds_fill n zero s c words flags [] h lw lf vw vf r = let m : c ≡ c + 0 = omega arith in record { entries = refl; scan = ap Ok m }
 holds_fill n zero s c words flags (x ∷ es) h lw lf vw vf r = let q = risen_head n s x es r in absurd (omega arith)
 holds_fill n (suc k) s c words flags es h lw lf vw vf r = go (next_of n s es r) (holds_fill n k (suc s))
   where
@@ -232,9 +231,9 @@ module _ (n : ℕ) (es : List Entry) (r : rising n 0 es ≡ true) where
   unfolding entries_of
   entries_filled = rw length_filled filled.entries
 
-  pub scan_filled : scan_of (fill_words (replicate n 0) es) (fill_flags (replicate n 0) es) ≡ Clean (length es)
+  pub scan_filled : scan_of (fill_words (replicate n 0) es) (fill_flags (replicate n 0) es) ≡ Ok (length es)
   unfolding scan_of
-  scan_filled = let z : 0 + length es ≡ length es = omega arith in rw length_filled (filled.scan ∙ ap Clean z)
+  scan_filled = let z : 0 + length es ≡ length es = omega arith in rw length_filled (filled.scan ∙ ap Ok z)
 
 -- ---- the smallest dirty slot
 
@@ -244,13 +243,13 @@ pub record SmallestDirty (words flags : List ℕ) (s d : ℕ) : Type 0 where
   pub here : dirty_at words flags d ≡ true
   pub below : (t : ℕ) → s ≤ t → t < d → dirty_at words flags t ≡ false
 
-scan_smallest_from : (words flags : List ℕ) (k s c d : ℕ) → scan_from words flags s k c ≡ Dirty d → SmallestDirty words flags s d
+scan_smallest_from : (words flags : List ℕ) (k s c d : ℕ) → scan_from words flags s k c ≡ Err d → SmallestDirty words flags s d
 unfolding scan_from
 scan_smallest_from words flags zero s c d h = let z : ◌≡◌ {A = ℕ} 0 1 = cc in absurd (omega arith)
 scan_smallest_from words flags (suc k) s c d h = go (dirty_at words flags s) refl h (λ e g. scan_smallest_from words flags k (suc s) e d g)
   where
-    go : (x : Bool) → dirty_at words flags s ≡ x → pick x (Dirty s) (scan_from words flags (suc s) k (pick (eqb (get_or flags s 0) 0) c (c + 1))) ≡ Dirty d
-        → ((e : ℕ) → scan_from words flags (suc s) k e ≡ Dirty d → SmallestDirty words flags (suc s) d) → SmallestDirty words flags s d
+    go : (x : Bool) → dirty_at words flags s ≡ x → pick x (Err s) (scan_from words flags (suc s) k (pick (eqb (get_or flags s 0) 0) c (c + 1))) ≡ Err d
+        → ((e : ℕ) → scan_from words flags (suc s) k e ≡ Err d → SmallestDirty words flags (suc s) d) → SmallestDirty words flags s d
     go true e h ih = let q : s ≡ d = cc in rw (← q) (record { from = omega arith; here = e; below = λ t a b. absurd (omega arith) })
     go false e h ih =
         let r = ih _ h in
@@ -262,19 +261,19 @@ scan_smallest_from words flags (suc k) s c d h = go (dirty_at words flags s) ref
         }
 
 -- "DIRTY: .. smallest such slot"
-pub scan_smallest : (words flags : List ℕ) (d : ℕ) → scan_of words flags ≡ Dirty d → SmallestDirty words flags 0 d
+pub scan_smallest : (words flags : List ℕ) (d : ℕ) → scan_of words flags ≡ Err d → SmallestDirty words flags 0 d
 unfolding scan_of
 scan_smallest words flags d h = scan_smallest_from words flags (length flags) 0 0 d h
 
 -- a table with no dirty slot has none
-clean_from : (words flags : List ℕ) (k s c m : ℕ) → scan_from words flags s k c ≡ Clean m → (t : ℕ) → s ≤ t → t < s + k → dirty_at words flags t ≡ false
+clean_from : (words flags : List ℕ) (k s c m : ℕ) → scan_from words flags s k c ≡ Ok m → (t : ℕ) → s ≤ t → t < s + k → dirty_at words flags t ≡ false
 clean_from words flags zero s c m h t a b = absurd (omega arith)
 clean_from words flags (suc k) s c m h t a b =
     let r = clean_at words flags s k c m h in
     cases (eqb t s) (λ y. let q : t ≡ s = eqb-true _ _ y in rw q r.here)
     (λ y. let n : t ≡ s → ⊥ = eqb-false _ _ y in clean_from words flags k (suc s) _ m r.rest t (omega (arith, n)) (omega arith))
 
-pub scan_clean : (words flags : List ℕ) (c : ℕ) → scan_of words flags ≡ Clean c → (t : ℕ) → t < length flags → dirty_at words flags t ≡ false
+pub scan_clean : (words flags : List ℕ) (c : ℕ) → scan_of words flags ≡ Ok c → (t : ℕ) → t < length flags → dirty_at words flags t ≡ false
 unfolding scan_of
 scan_clean words flags c h t l = clean_from words flags (length flags) 0 0 c h t (omega arith) (omega arith)
 

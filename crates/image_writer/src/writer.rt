@@ -4,9 +4,10 @@ ghost use Rattle.std.proofs.lemmas.List.Edits.{sets};
 ghost use Rattle.words.specs.Bytes.{bytes_of};
 ghost use Rattle.image.specs.Format.{entry_size, label_most, entry_bytes, field_of, label_field, fields_for, image_of};
 ghost use Rattle.image_writer.specs.Pieces.{entries_to, Put, PutEntries, PutFields, chunk, size_of};
+ghost use Rattle.image_writer.specs.declared.writer.WriteRefusal.TheVariants as write_refusal;
 ghost use Rattle.image_writer.specs.Writing.{writes, head_of, write_of};
 
-use crate::dirty::scan_table;
+use crate::dirty::{Slots, scan_table};
 use funnel::table::FunnelTable;
 use image::field::{ENTRY_SIZE, FIELD_ENTRIES};
 use image::head::Head;
@@ -23,6 +24,14 @@ pub enum WriteRefusal {
     Room { need: u64 },
 }
 
+impl From<Gate> for WriteRefusal {
+    ghost from_gives = { λ g refused. refused ≡ write_refusal.Gate g };
+
+    fn from(gate: Gate) -> WriteRefusal {
+        WriteRefusal::Gate(gate)
+    }
+}
+
 // The image of a table whose buffers have its length, and the image's length, or why there is none.
 pub fn write<E: Stored>(
     table: FunnelTable,
@@ -34,7 +43,8 @@ pub fn write<E: Stored>(
     requires { (length (E.words words.now) ≡ length flags.now) × (length flags.now ≤ 2 ^ 32) × (length label.now ≤ label_most) }
     ensures { writes result out.new ≡ write_of (head_of table) label.now (E.words words.now) flags.now out.old }
 {
-    let count = match scan_table(words, flags) {
+    let slots = Slots { words, flags };
+    let count = match scan_table(&slots) {
         Err(slot) => {
             return Err(WriteRefusal::Dirty {
                 slot: GlobalSlot(slot as u64),
@@ -47,7 +57,7 @@ pub fn write<E: Stored>(
         return Err(WriteRefusal::Room { need: need as u64 });
     }
     let head = head_of(table);
-    write_all(head, words, flags, label, count, out);
+    write_all(head, &slots, label, count, out);
     Ok(need as u64)
 }
 
@@ -65,23 +75,16 @@ pub fn image_size(label_len: usize, count: usize) -> usize
 }
 
 // The whole image, into room that is enough. Field 6 is the number of occupied flags, whatever count the state has.
-fn write_all<E: Stored>(
-    head: Head,
-    words: &[E],
-    flags: &[u8],
-    label: &[u8],
-    count: usize,
-    out: &mut [u8],
-)
-    requires { (length (E.words words.now) ≡ length flags.now) × (count ≡ length (entries_to (E.words words.now) flags.now 0)) × (length label.now ≤ label_most) × (size_of (length label.now) count ≤ length out.old) }
-    ensures { out.new ≡ sets out.old 0 (image_of head label.now (entries_to (E.words words.now) flags.now 0)) }
+fn write_all<E: Stored>(head: Head, slots: &Slots<E>, label: &[u8], count: usize, out: &mut [u8])
+    requires { (count ≡ length (entries_to (E.words slots.now.words.now) slots.now.flags.now 0)) × (length label.now ≤ label_most) × (size_of (length label.now) count ≤ length out.old) }
+    ensures { out.new ≡ sets out.old 0 (image_of head label.now (entries_to (E.words slots.now.words.now) slots.now.flags.now 0)) }
 {
     let entries = count as u64;
     let behind_n = write_number::<8>(out, 0, 1, head.n);
     let behind_e = write_number::<4>(out, behind_n, 2, head.e);
     let behind_seed = write_number::<8>(out, behind_e, 3, head.seed);
     let behind_label = write_label(label, out, behind_seed);
-    let behind_entries = write_fields(words, flags, count, out, behind_label);
+    let behind_entries = write_fields(slots, count, out, behind_label);
     write_number::<8>(out, behind_entries, 6, entries);
 }
 
@@ -130,15 +133,9 @@ pub fn write_label(label: &[u8], out: &mut [u8], at: usize) -> usize
 }
 
 // The fields of entries; the offset after them. The loop is over fields, of which each says from which slot the next goes on.
-fn write_fields<E: Stored>(
-    words: &[E],
-    flags: &[u8],
-    count: usize,
-    out: &mut [u8],
-    at: usize,
-) -> usize
-    requires { (length (E.words words.now) ≡ length flags.now) × (count ≡ length (entries_to (E.words words.now) flags.now 0)) × (at + entry_size * count + 3 * fields_for count ≤ length out.old) }
-    ensures { PutFields (E.words words.now) flags.now count out.old at out.new result }
+fn write_fields<E: Stored>(slots: &Slots<E>, count: usize, out: &mut [u8], at: usize) -> usize
+    requires { (count ≡ length (entries_to (E.words slots.now.words.now) slots.now.flags.now 0)) × (at + entry_size * count + 3 * fields_for count ≤ length out.old) }
+    ensures { PutFields (E.words slots.now.words.now) slots.now.flags.now count out.old at out.new result }
 {
     let mut s = 0;
     let mut left = count;
@@ -146,7 +143,7 @@ fn write_fields<E: Stored>(
     while 0 < left {
         let m = chunk_of(left);
         write_head(out, p, 5, (ENTRY_SIZE * m) as u64);
-        s = write_entries(words, flags, s, m, out, p + 3);
+        s = write_entries(slots, s, m, out, p + 3);
         p = p + 3 + ENTRY_SIZE * m;
         left -= m;
     }
@@ -162,15 +159,14 @@ pub fn chunk_of(left: usize) -> usize
 
 // The next m entries from slot `from` on, at `at`; the slot to go on from. The loop ends at the m-th occupied slot, wherever that is.
 fn write_entries<E: Stored>(
-    words: &[E],
-    flags: &[u8],
+    slots: &Slots<E>,
     from: usize,
     m: usize,
     out: &mut [u8],
     at: usize,
 ) -> usize
-    requires { (length (E.words words.now) ≡ length flags.now) × (m ≤ length (entries_to (E.words words.now) flags.now from)) × (at + entry_size * m ≤ length out.old) × (from ≤ length flags.now) }
-    ensures { PutEntries (E.words words.now) flags.now from m out.old at out.new result }
+    requires { (m ≤ length (entries_to (E.words slots.now.words.now) slots.now.flags.now from)) × (at + entry_size * m ≤ length out.old) × (from ≤ length slots.now.flags.now) }
+    ensures { PutEntries (E.words slots.now.words.now) slots.now.flags.now from m out.old at out.new result }
 {
     let mut s = from;
     let mut left = m;
@@ -178,8 +174,8 @@ fn write_entries<E: Stored>(
     while 0 < left {
         let slot = s;
         s += 1;
-        if flags[slot] != 0 {
-            let identity = E::word(words, slot as u64);
+        if slots.flags[slot] != 0 {
+            let identity = E::word(slots.words, slot as u64);
             write_entry(out, p, slot as u64, identity);
             p += ENTRY_SIZE;
             left -= 1;

@@ -4,8 +4,6 @@ ghost use Rattle.gridder_check.specs.Check.{check_call, check_left};
 ghost use Rattle.lent.specs.Lent.{words_of};
 
 use gridder_check::call::check_in;
-use gridder_state::state::holds_funnel;
-use refusal::{Name, number};
 
 // The check of a table: whether some order of insertions makes it. Marks and order are lent, n entries each.
 #[unsafe(no_mangle)]
@@ -19,8 +17,5 @@ pub extern "C" fn landovireph_funnel_check(
 ) -> u64
     ensures { check_left result answer.new marks.new (words_of order.new) ≡ check_call state.now words.now flags.now marks.old order.old answer.old }
 {
-    if holds_funnel(state) {
-        return check_in(state, words, flags, marks, order, answer);
-    }
-    number(Name::State)
+    check_in(state, words, flags, marks, order, answer)
 }

@@ -6,12 +6,9 @@ ghost use Rattle.gridder_elastic.specs.Calls.{insert_call, limits_of, open_call,
 ghost use Rattle.lent.specs.Lent.{words_of};
 
 use elastic::state::{Limits, State};
-use geometry::config::Gated;
 use gridder_elastic::calls::{fresh, insert_in, open_blocks_gate, open_in, query_in};
-use gridder_elastic_state::state::holds_elastic;
 use gridder_open::open::refuse_open;
 use lent::word::word_count;
-use refusal::{Name, number};
 
 // Where an identity is.
 #[unsafe(no_mangle)]
@@ -24,10 +21,7 @@ pub extern "C" fn landovireph_elastic_query(
 ) -> u64
     ensures { reply result answer.new ≡ query_call state.now words.now flags.now identity answer.old }
 {
-    if holds_elastic(state) {
-        return query_in(state, words, flags, identity, answer);
-    }
-    number(Name::State)
+    query_in(state, words, flags, identity, answer)
 }
 
 // The insertion of an identity.
@@ -41,10 +35,7 @@ pub extern "C" fn landovireph_elastic_insert(
 ) -> u64
     ensures { left result answer.new state.new (words_of words.new) flags.new ≡ insert_call state.old words.old flags.old identity answer.old }
 {
-    if holds_elastic(state) {
-        return insert_in(state, words, flags, identity, answer);
-    }
-    number(Name::State)
+    insert_in(state, words, flags, identity, answer)
 }
 
 // A fresh table: words and flags zeroed, its numbers in the state block.
@@ -73,7 +64,7 @@ pub extern "C" fn landovireph_elastic_open(
     let entries = word_count(words.len() as u64) as usize;
     let slots = flags.len();
     match open_blocks_gate(n, e, limits, entries, slots, state.len(), answer.len()) {
-        Gated::Refused(g) => refuse_open(state.len(), answer, g),
-        Gated::Passed => open_in(fresh(n, e, seed, limits), state, words, flags, answer),
+        Err(g) => refuse_open(state.len(), answer, g),
+        Ok(()) => open_in(fresh(n, e, seed, limits), state, words, flags, answer),
     }
 }

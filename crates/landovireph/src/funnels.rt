@@ -1,19 +1,15 @@
 // The calls for C on funnel tables. Each requires nothing.
 ghost use Rattle.std.specs.Prelude.{◌≡◌};
-ghost use Rattle.geometry.specs.declared.config.Gated.TheVariants.{Passed};
 ghost use Rattle.gridder_answer.specs.Answer.{reply};
 ghost use Rattle.gridder_calls.specs.Calls.{insert_call, left, search_call};
 ghost use Rattle.gridder_open.specs.Open.{OpensLent};
 ghost use Rattle.gridder_place.specs.Place.{all_left, place_call};
 ghost use Rattle.lent.specs.Lent.{words_of};
 
-use geometry::config::Gated;
 use gridder_calls::funnels::{insert_in, search_in};
 use gridder_open::open::{open_blocks_gate, open_in, refuse_open};
 use gridder_place::placing::place_in;
-use gridder_state::state::holds_funnel;
 use lent::word::word_count;
-use refusal::{Name, number};
 
 // Where an identity is, or the vacancy where it would be put.
 #[unsafe(no_mangle)]
@@ -26,10 +22,7 @@ pub extern "C" fn landovireph_funnel_search(
 ) -> u64
     ensures { reply result answer.new ≡ search_call state.now words.now flags.now identity answer.old }
 {
-    if holds_funnel(state) {
-        return search_in(state, words, flags, identity, answer);
-    }
-    number(Name::State)
+    search_in(state, words, flags, identity, answer)
 }
 
 // The insertion of an identity.
@@ -43,10 +36,7 @@ pub extern "C" fn landovireph_funnel_insert(
 ) -> u64
     ensures { left result answer.new state.new (words_of words.new) flags.new ≡ insert_call state.old words.old flags.old identity answer.old }
 {
-    if holds_funnel(state) {
-        return insert_in(state, words, flags, identity, answer);
-    }
-    number(Name::State)
+    insert_in(state, words, flags, identity, answer)
 }
 
 // A fresh table: words and flags zeroed, its numbers in the state block.
@@ -66,8 +56,8 @@ pub extern "C" fn landovireph_funnel_open(
     let entries = word_count(words.len() as u64);
     let slots = flags.len() as u64;
     match open_blocks_gate(n, e, word_cap, entries, slots, state.len(), answer.len()) {
-        Gated::Refused(g) => refuse_open(state.len(), answer, g),
-        Gated::Passed => open_in(n, e, seed, word_cap, state, words, flags, answer),
+        Err(g) => refuse_open(state.len(), answer, g),
+        Ok(()) => open_in(n, e, seed, word_cap, state, words, flags, answer),
     }
 }
 
@@ -83,8 +73,5 @@ pub extern "C" fn landovireph_funnel_place_all(
 ) -> u64
     ensures { all_left result answer.new state.new (words_of words.new) flags.new (words_of slots.new) ≡ place_call state.old words.old flags.old identities.now slots.old answer.old }
 {
-    if holds_funnel(state) {
-        return place_in(state, words, flags, identities, slots, answer);
-    }
-    number(Name::State)
+    place_in(state, words, flags, identities, slots, answer)
 }

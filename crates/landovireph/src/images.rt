@@ -5,8 +5,6 @@ ghost use Rattle.gridder_images.specs.Calls.{load_call, sent, write_call};
 ghost use Rattle.lent.specs.Lent.{words_of};
 
 use gridder_images::calls::{load_in, write_in};
-use gridder_state::state::holds_funnel;
-use refusal::{Name, number};
 
 // A table from an image of it.
 #[unsafe(no_mangle)]
@@ -19,10 +17,7 @@ pub extern "C" fn landovireph_funnel_load(
 ) -> u64
     ensures { left result answer.new state.new (words_of words.new) flags.new ≡ load_call state.old words.old flags.old image.now answer.old }
 {
-    if holds_funnel(state) {
-        return load_in(state, words, flags, image, answer);
-    }
-    number(Name::State)
+    load_in(state, words, flags, image, answer)
 }
 
 // The image of a table; bytes past it stay as they were.
@@ -37,8 +32,5 @@ pub extern "C" fn landovireph_funnel_write(
 ) -> u64
     ensures { sent result answer.new image.new ≡ write_call state.now words.now flags.now label.now image.old answer.old }
 {
-    if holds_funnel(state) {
-        return write_in(state, words, flags, label, image, answer);
-    }
-    number(Name::State)
+    write_in(state, words, flags, label, image, answer)
 }

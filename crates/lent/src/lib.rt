@@ -1,13 +1,13 @@
 // Words lent in one of two ways: as numbers, or as little-endian bytes, eight to a word, as the calls for C get them: what they are, and how one is read
 // and stored.
 //
-// Every engine is written once over both, with the slice of the other storage empty: the walks of a funnel table, the check, images, elastic tables. Their
-// public calls lend no bytes, the calls for C no numbers. A contract speaks of the words that are lent, `words_in`, so the definitions are the base's own.
+// Every engine is written once over the elements that words are stored in, `E: Stored`: the walks of a funnel table, the check, images, elastic tables. Their
+// public calls lend numbers, the calls for C bytes. A contract speaks of the words that are lent, `E.words`, so the definitions are the base's own.
 //
-//     store.rt   the word of a slot in either storage, and how many words are lent
+//     store.rt   the elements that words are stored in: how many words a slice of them is, and the word of a slot
 //     word.rt    the word of a slot in bytes, and how many words some bytes are
 //
-// specs/Lent.antt says what words lent as bytes are, and what words in two slices are.
+// specs/Lent.antt says what words lent as bytes are.
 
 #![tactic(auto)]
 

@@ -12,7 +12,7 @@ pub trait Table {
 
     fn insert(&mut self, identity: u64) -> Result<Self::Done, Refusal>;
 
-    fn ask(&mut self, identity: u64) -> Result<Self::Done, Refusal>;
+    fn ask(&self, identity: u64) -> Result<Self::Done, Refusal>;
 
     fn edit(&mut self, edit: Edit);
 

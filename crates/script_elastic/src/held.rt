@@ -31,7 +31,7 @@ impl<'a> Table for Held<'a> {
         done.answer.map(Done::Inserted).map_err(insert_refusal)
     }
 
-    fn ask(&mut self, identity: u64) -> Result<Done, Refusal> {
+    fn ask(&self, identity: u64) -> Result<Done, Refusal> {
         query(self.st, &self.counts, self.words, self.flags, identity)
             .map(Done::Found)
             .map_err(query_refusal)
@@ -68,13 +68,13 @@ impl<'a> Table for Held<'a> {
 // ERUN n e seed c wordcap searchcap poscap OPS, EBULK n e seed c wordcap searchcap poscap start count
 pub fn command(form: Form, fields: Fields, out: &mut Out) {
     match asked_by(form, fields) {
-        Ok(asked) => held(asked, out),
+        Ok(asked) => in_buffers(asked, out),
         Err(refused) => write!(out, "{refused}"),
     }
 }
 
 // The run in the first n slots of large buffers.
-fn held(asked: Asked, out: &mut Out) {
+fn in_buffers(asked: Asked, out: &mut Out) {
     let mut words = word_buffer();
     let mut flags = io::large_buffer();
     let n = asked.setting.n as usize;
@@ -104,7 +104,7 @@ fn opened(asked: Asked, words: &mut [u64], flags: &mut [u8], out: &mut Out) {
 fn run(asked: Asked, mut table: Held, out: &mut Out) {
     let sums = carry_out(asked.operations, &mut table, out);
     put_sums(asked.operations.is_bulk(), table.st.count, &sums, out);
-    put_table(table.st.plan.levels, &table.counts, table.words, table.flags, out);
+    put_table(&table, out);
 }
 
 // What an end begins with, and in bulk the sum of the positions.
@@ -116,8 +116,10 @@ fn put_sums(is_bulk: bool, count: u64, sums: &Sums, out: &mut Out) {
 }
 
 // The counts of the levels, joined by commas, and the digest.
-fn put_table(levels: u64, counts: &[u64], words: &[u64], flags: &[u8], out: &mut Out) {
+fn put_table(table: &Held, out: &mut Out) {
     out.byte(b' ');
-    out.joined(levels, counts);
+    out.joined(table.st.plan.levels, &table.counts);
+    let words = &*table.words;
+    let flags = &*table.flags;
     write!(out, " {}", Digest { words, flags });
 }

@@ -27,7 +27,7 @@ impl<'a> Table for Held<'a> {
         step.answer.map(inserted).map_err(insert_refusal)
     }
 
-    fn ask(&mut self, identity: u64) -> Result<Done, Refusal> {
+    fn ask(&self, identity: u64) -> Result<Done, Refusal> {
         searched(search(self.table, self.counts, self.words, self.flags, identity)?)
     }
 
@@ -55,13 +55,17 @@ impl<'a> Table for Held<'a> {
     }
 }
 
+impl<'a> Held<'a> {
+    // A space and the digest.
+    pub fn put_digest(&self, out: &mut Out) {
+        let words = &*self.words;
+        let flags = &*self.flags;
+        write!(out, " {}", Digest { words, flags });
+    }
+}
+
 pub fn run(operations: Operations, table: &mut Held, out: &mut Out) {
     let sums = carry_out(operations, table, out);
     put_end(operations.is_bulk(), table.table.count, &sums, out);
-    put_digest(table.words, table.flags, out);
-}
-
-// A space and the digest of a table.
-pub fn put_digest(words: &[u64], flags: &[u8], out: &mut Out) {
-    write!(out, " {}", Digest { words, flags });
+    table.put_digest(out);
 }

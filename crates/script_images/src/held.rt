@@ -12,13 +12,13 @@ use text::out::Out;
 // The answer to a command.
 pub fn command(verb: Verb, fields: Fields, out: &mut Out) {
     match asked_by(verb, fields) {
-        Ok(asked) => held(asked, out),
+        Ok(asked) => in_buffers(asked, out),
         Err(refused) => write!(out, "{refused}"),
     }
 }
 
 // The task in the first n slots of large buffers.
-fn held(asked: Asked, out: &mut Out) {
+fn in_buffers(asked: Asked, out: &mut Out) {
     let mut words = word_buffer();
     let mut flags = io::large_buffer();
     let n = asked.opening.n as usize;
@@ -31,37 +31,36 @@ fn opened(asked: Asked, words: &mut [u64], flags: &mut [u8], out: &mut Out) {
     let opening = asked.opening;
     let mut counts = [0; 118];
     match open(opening.n, opening.e, opening.seed, opening.cap, &mut counts, words, flags) {
-        Ok(table) => done(
-            asked.task,
-            Held {
+        Ok(table) => {
+            let mut held = Held {
                 table,
                 counts: &counts,
                 words,
                 flags,
-            },
-            out,
-        ),
+            };
+            answer(asked.task, &mut held, out);
+        }
         Err(gate) => write!(out, "{}", Refusal::from(gate)),
     }
 }
 
 // WRITE and CHECK are of a table that holds the entries.
-fn done(task: Task, mut table: Held, out: &mut Out) {
+fn answer(task: Task, held: &mut Held, out: &mut Out) {
     match task {
-        Task::Run(operations) => run(operations, &mut table, out),
-        Task::Load { image } => load::run(image, &mut table, out),
+        Task::Run(operations) => run(operations, held, out),
+        Task::Load { image } => load::run(image, held, out),
         Task::Write {
             label,
             room,
             entries,
         } => {
-            put_entries(entries, table.words, table.flags);
-            write::run(label, room, &table, out);
+            put_entries(entries, held.words, held.flags);
+            write::run(label, room, held, out);
         }
         Task::Check { count, entries } => {
-            put_entries(entries, table.words, table.flags);
-            table.table.count = count;
-            check::run(&table, out);
+            put_entries(entries, held.words, held.flags);
+            held.table.count = count;
+            check::run(held, out);
         }
     }
 }

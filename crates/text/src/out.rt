@@ -72,7 +72,7 @@ impl Out {
         }
     }
 
-    // What `write!` calls.
+    // What `write!` and `writeln!` call.
     pub fn write_fmt<D: Display + Drop>(&mut self, text: D) {
         // It takes all that it is given.
         let _ = fmt::Write::write_fmt(self, text);

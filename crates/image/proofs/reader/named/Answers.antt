@@ -6,26 +6,26 @@ use native.Mathlib.Omega.{arith}
 use Rattle.image.proofs.reader.named.Goals as goal
 
 pub read64-requires : goal.read64-requires
-read64-requires c = omega (arith, len_1 _ _ c.requires.1 c.if-tag-eq1.true)
+read64-requires c = omega (arith, len_1 _ _ c.args.body.now.right c.if-body-eq1.true)
 
-pub returns-then-tag-eq1 : goal.returns-then-tag-eq1
+pub returns-then-body-eq1 : goal.returns-then-body-eq1
 unfolding told_head
-returns-then-tag-eq1 c = simp (c.read64.ensures, eq-eqb _ _ c.if-tag-eq1.true)
+returns-then-body-eq1 c = simp (c.read64.ensures, eq-eqb _ _ c.if-body-eq1.true)
 
 pub read32-requires : goal.read32-requires
-read32-requires c = omega (arith, len_2 _ _ c.requires.1 c.if-tag-eq2.true)
+read32-requires c = omega (arith, len_2 _ _ c.args.body.now.right c.if-body-eq2.true)
 
-pub returns-then-tag-eq2 : goal.returns-then-tag-eq2
+pub returns-then-body-eq2 : goal.returns-then-body-eq2
 unfolding told_head
-returns-then-tag-eq2 c = simp (c.read32.ensures.is, ne_eqb _ _ c.if-tag-eq1.false, eq-eqb _ _ c.if-tag-eq2.true)
+returns-then-body-eq2 c = simp (c.read32.ensures.is, ne_eqb _ _ c.if-body-eq1.false, eq-eqb _ _ c.if-body-eq2.true)
 
-pub read64-requires-then-tag-eq3 : goal.read64-requires-then-tag-eq3
-read64-requires-then-tag-eq3 c = omega (arith, len_3 _ _ c.requires.1 c.if-tag-eq3.true)
+pub read64-requires-then-body-eq3 : goal.read64-requires-then-body-eq3
+read64-requires-then-body-eq3 c = omega (arith, len_3 _ _ c.args.body.now.right c.if-body-eq3.true)
 
-pub returns-then-tag-eq3 : goal.returns-then-tag-eq3
+pub returns-then-body-eq3 : goal.returns-then-body-eq3
 unfolding told_head
-returns-then-tag-eq3 c = simp (c.read64-then-tag-eq3.ensures, ne_eqb _ _ c.if-tag-eq1.false, ne_eqb _ _ c.if-tag-eq2.false, eq-eqb _ _ c.if-tag-eq3.true)
+returns-then-body-eq3 c = simp (c.read64-then-body-eq3.ensures, ne_eqb _ _ c.if-body-eq1.false, ne_eqb _ _ c.if-body-eq2.false, eq-eqb _ _ c.if-body-eq3.true)
 
-pub returns-else-tag-eq3 : goal.returns-else-tag-eq3
+pub returns-else-body-eq3 : goal.returns-else-body-eq3
 unfolding told_head
-returns-else-tag-eq3 c = simp (ne_eqb _ _ c.if-tag-eq1.false, ne_eqb _ _ c.if-tag-eq2.false, ne_eqb _ _ c.if-tag-eq3.false)
+returns-else-body-eq3 c = simp (ne_eqb _ _ c.if-body-eq1.false, ne_eqb _ _ c.if-body-eq2.false, ne_eqb _ _ c.if-body-eq3.false)

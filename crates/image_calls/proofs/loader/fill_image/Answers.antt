@@ -5,57 +5,51 @@ use mathlib.Core.Path.{sym, ◌∙◌}
 use Rattle.image_calls.proofs.loader.fill_image.Goals as goal
 
 pub loop-tag-init : goal.loop-tag-init
-loop-tag-init c = let q = c.requires in (onward_none _ _ _ q.0 q.1 q.2, refl, refl)
+loop-tag-init g c = let q = c.requires in (onward_none _ _ _ q.0 q.1 q.2, refl)
 
 pub frame-requires : goal.frame-requires
-frame-requires c = c.loop-tag.invariant.0.within
-
-pub shape_of-words-in-Wrong : goal.shape_of-words-in-Wrong
-shape_of-words-in-Wrong c = c.loop-tag.invariant.1
-
-pub shape_of-flags-in-Wrong : goal.shape_of-flags-in-Wrong
-shape_of-flags-in-Wrong c = (onward_sizes c.loop-tag.invariant.0).1
-
-pub shape_of-lent-in-Wrong : goal.shape_of-lent-in-Wrong
-shape_of-lent-in-Wrong c = c.loop-tag.invariant.2
-
-pub returns-in-Wrong : goal.returns-in-Wrong
-returns-in-Wrong c = onward_wrong c.loop-tag.invariant.0 _ (sym c.frame.ensures ∙ c.in-Wrong.is)
+frame-requires g c = c.loop-tag.invariant.0.within
 
 pub shape_of-words-then-tag-eq6 : goal.shape_of-words-then-tag-eq6
-shape_of-words-then-tag-eq6 c = c.loop-tag.invariant.1
+shape_of-words-then-tag-eq6 g c = c.loop-tag.invariant.1
 
 pub shape_of-flags-then-tag-eq6 : goal.shape_of-flags-then-tag-eq6
-shape_of-flags-then-tag-eq6 c = (onward_sizes c.loop-tag.invariant.0).1
-
-pub shape_of-lent-then-tag-eq6 : goal.shape_of-lent-then-tag-eq6
-shape_of-lent-then-tag-eq6 c = c.loop-tag.invariant.2
+shape_of-flags-then-tag-eq6 g c = (onward_sizes c.loop-tag.invariant.0).1
 
 pub returns-then-tag-eq6 : goal.returns-then-tag-eq6
-returns-then-tag-eq6 c = onward_last c.loop-tag.invariant.0 _ _ (sym c.frame.ensures ∙ c.in-Field.is) c.if-tag-eq6.true
+returns-then-tag-eq6 g c = onward_last c.loop-tag.invariant.0 _ _ (sym c.frame.ensures ∙ c.in-Ok.is) c.if-tag-eq6.true
 
 pub overflow_add-body : goal.overflow_add-body
-overflow_add-body c = let f = onward_framing c.loop-tag.invariant.0 _ _ (sym c.frame.ensures ∙ c.in-Field.is) in omega (arith, f.within)
+overflow_add-body g c = let f = onward_framing c.loop-tag.invariant.0 _ _ (sym c.frame.ensures ∙ c.in-Ok.is) in omega (arith, f.within)
 
 pub overflow_add-at : goal.overflow_add-at
-overflow_add-at c = let f = onward_framing c.loop-tag.invariant.0 _ _ (sym c.frame.ensures ∙ c.in-Field.is) in omega (arith, f.within)
+overflow_add-at g c = let f = onward_framing c.loop-tag.invariant.0 _ _ (sym c.frame.ensures ∙ c.in-Ok.is) in omega (arith, f.within)
 
 pub fill_field-requires : goal.fill_field-requires
-fill_field-requires c = let l = c.loop-tag.invariant.0 in
-    let w = (sym c.frame.ensures ∙ c.in-Field.is) in
+fill_field-requires g c = let l = c.loop-tag.invariant.0 in
+    let w = (sym c.frame.ensures ∙ c.in-Ok.is) in
     let f = onward_framing l _ _ w in
     (omega (arith, f.within), onward_fits l _ _ w c.if-tag-eq6.false c.if-tag-eq5.true)
 
 pub loop-tag-smaller-then-tag-eq5 : goal.loop-tag-smaller-then-tag-eq5
-loop-tag-smaller-then-tag-eq5 c = let f = onward_framing c.loop-tag.invariant.0 _ _ (sym c.frame.ensures ∙ c.in-Field.is) in omega (arith, f.within)
+loop-tag-smaller-then-tag-eq5 g c = let f = onward_framing c.loop-tag.invariant.0 _ _ (sym c.frame.ensures ∙ c.in-Ok.is) in omega (arith, f.within)
 
 pub loop-tag-preserved-then-tag-eq5 : goal.loop-tag-preserved-then-tag-eq5
-loop-tag-preserved-then-tag-eq5 c = let l = c.loop-tag.invariant in
-    let w = (sym c.frame.ensures ∙ c.in-Field.is) in
-    (rw c.low_after-low.ensures (onward_five l.0 _ _ w c.if-tag-eq6.false c.if-tag-eq5.true _ _ c.fill_field.ensures), c.fill_field.auto.words ∙ l.1, c.fill_field.auto.lent ∙ l.2)
+loop-tag-preserved-then-tag-eq5 g c = let l = c.loop-tag.invariant in
+    let w = (sym c.frame.ensures ∙ c.in-Ok.is) in
+    (rw c.low_after-low.ensures (onward_five l.0 _ _ w c.if-tag-eq6.false c.if-tag-eq5.true _ _ c.fill_field.ensures), c.fill_field.auto.words ∙ l.1)
 
 pub loop-tag-smaller : goal.loop-tag-smaller
-loop-tag-smaller c = let f = onward_framing c.loop-tag.invariant.0 _ _ (sym c.frame.ensures ∙ c.in-Field.is) in omega (arith, f.within)
+loop-tag-smaller g c = let f = onward_framing c.loop-tag.invariant.0 _ _ (sym c.frame.ensures ∙ c.in-Ok.is) in omega (arith, f.within)
 
 pub loop-tag-preserved : goal.loop-tag-preserved
-loop-tag-preserved c = let l = c.loop-tag.invariant in (rw c.low_after-low.ensures (onward_other l.0 _ _ (sym c.frame.ensures ∙ c.in-Field.is) c.if-tag-eq6.false c.if-tag-eq5.false), l.1, l.2)
+loop-tag-preserved g c = let l = c.loop-tag.invariant in (rw c.low_after-low.ensures (onward_other l.0 _ _ (sym c.frame.ensures ∙ c.in-Ok.is) c.if-tag-eq6.false c.if-tag-eq5.false), l.1)
+
+pub shape_of-words : goal.shape_of-words
+shape_of-words g c = c.loop-tag.invariant.1
+
+pub shape_of-flags : goal.shape_of-flags
+shape_of-flags g c = (onward_sizes c.loop-tag.invariant.0).1
+
+pub returns : goal.returns
+returns g c = onward_wrong c.loop-tag.invariant.0 _ (sym c.frame.ensures ∙ c.in_default.is)

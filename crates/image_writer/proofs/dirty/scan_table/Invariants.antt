@@ -3,4 +3,4 @@ use Rattle.image_writer.specs.DirtyLaws.{Scanning}
 use Rattle.image_writer.proofs.dirty.scan_table.Given as goal
 
 abbrev pub invariant-loop-slot : goal.invariant-loop-slot
-invariant-loop-slot g l = Scanning (g.E.Stored.words l.words) l.flags l.slot l.count
+invariant-loop-slot g l = Scanning (g.E.Stored.words l.slots.words.now) l.slots.flags.now l.slot l.count

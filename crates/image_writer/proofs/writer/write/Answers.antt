@@ -19,7 +19,7 @@ returns-then-out-need g c = rw c.image_size-need.ensures (writes_room _ _ _ _ _ 
 
 pub write_all-requires : goal.write_all-requires
 write_all-requires g c = let p = c.requires in
-    (p.0, rw entries_whole (count_is _ _ _ (sym c.scan_table.ensures ∙ c.in-Ok.is)), p.2, rw c.image_size-need.ensures at c.if-out-need.false)
+    (rw entries_whole (count_is _ _ _ (sym c.scan_table.ensures ∙ c.in-Ok.is)), p.2, rw c.image_size-need.ensures at c.if-out-need.false)
 
 pub returns : goal.returns
 returns g c = rw c.image_size-need.ensures

@@ -5,7 +5,7 @@ use Prim.Native.Nat.{◌-◌}
 use Rattle.image_writer.proofs.writer.write_entries.Given as goal
 
 abbrev pub invariant-loop-left : goal.invariant-loop-left
-invariant-loop-left g l = Writing (g.E.Stored.words l.words) l.flags l.from l.m l.initial.out l.at l.out l.s l.left l.p
+invariant-loop-left g l = Writing (g.E.Stored.words l.slots.words.now) l.slots.flags.now l.from l.m l.initial.out l.at l.out l.s l.left l.p
 
 abbrev pub decreases-loop-left : goal.decreases-loop-left
-decreases-loop-left g l = length l.flags - l.s
+decreases-loop-left g l = length l.slots.flags.now - l.s

@@ -6,7 +6,7 @@ use mathlib.Core.Path.{ap}
 use Rattle.image_writer.proofs.writer.write_fields.Goals as goal
 
 pub loop-left-init : goal.loop-left-init
-loop-left-init g c = let q = c.requires in fields_none _ _ _ _ _ q.1 q.2
+loop-left-init g c = let q = c.requires in fields_none _ _ _ _ _ q.0 q.1
 
 pub overflow_mul-m : goal.overflow_mul-m
 overflow_mul-m g c = omega arith
@@ -19,7 +19,7 @@ overflow_add-p g c = let r = fields_room c.loop-left.invariant c.loop-left-test.
 
 pub write_entries-s-requires : goal.write_entries-s-requires
 write_entries-s-requires g c = let r = fields_room c.loop-left.invariant c.loop-left-test.true in let z = simp length-sets at (ap length c.write_head.ensures) in
-    (c.requires.0, omega arith, omega arith, omega arith)
+    (omega arith, omega arith, omega arith)
 
 pub overflow_add-p-in-loop-left : goal.overflow_add-p-in-loop-left
 overflow_add-p-in-loop-left g c = let r = fields_room c.loop-left.invariant c.loop-left-test.true in omega arith

@@ -3,7 +3,7 @@ use Rattle.image_writer.specs.EntryFieldLaws.{Fields}
 use Rattle.image_writer.proofs.writer.write_fields.Given as goal
 
 abbrev pub invariant-loop-left : goal.invariant-loop-left
-invariant-loop-left g l = Fields (g.E.Stored.words l.words) l.flags l.count l.initial.out l.at l.out l.s l.left l.p
+invariant-loop-left g l = Fields (g.E.Stored.words l.slots.words.now) l.slots.flags.now l.count l.initial.out l.at l.out l.s l.left l.p
 
 abbrev pub decreases-loop-left : goal.decreases-loop-left
 decreases-loop-left g l = l.left

@@ -3,10 +3,10 @@ use Rattle.gridder_open.specs.OpenLaws.{open_passes, opens_refused, opens_passed
 use Rattle.landovireph.proofs.funnels.landovireph_funnel_open.Goals as goal
 
 pub open_in-requires : goal.open_in-requires
-open_in-requires c = open_passes _ _ c.args.seed _ c.args.state.now c.args.words.now c.args.flags.now c.args.answer.now _ c.word_count-entries.ensures _ c.open_blocks_gate.ensures c.in-Passed.is
+open_in-requires c = open_passes _ _ c.args.seed _ c.args.state.now c.args.words.now c.args.flags.now c.args.answer.now _ c.word_count-entries.ensures _ c.open_blocks_gate.ensures c.in-Ok.is
 
-pub returns-in-Refused : goal.returns-in-Refused
-returns-in-Refused c = opens_refused _ _ c.args.seed _ c.args.state.now c.args.words.now c.args.flags.now c.args.answer.now _ c.word_count-entries.ensures _ c.open_blocks_gate.ensures _ _ _ c.in-Refused.is c.refuse_open.ensures
+pub returns-in-Err : goal.returns-in-Err
+returns-in-Err c = opens_refused _ _ c.args.seed _ c.args.state.now c.args.words.now c.args.flags.now c.args.answer.now _ c.word_count-entries.ensures _ c.open_blocks_gate.ensures _ _ _ c.in-Err.is c.refuse_open.ensures
 
-pub returns-in-Passed : goal.returns-in-Passed
-returns-in-Passed c = opens_passed _ _ c.args.seed _ c.args.state.now c.args.words.now c.args.flags.now c.args.answer.now _ c.word_count-entries.ensures _ c.open_blocks_gate.ensures _ _ _ _ _ c.in-Passed.is c.open_in.ensures
+pub returns-in-Ok : goal.returns-in-Ok
+returns-in-Ok c = opens_passed _ _ c.args.seed _ c.args.state.now c.args.words.now c.args.flags.now c.args.answer.now _ c.word_count-entries.ensures _ c.open_blocks_gate.ensures _ _ _ _ _ c.in-Ok.is c.open_in.ensures
