@@ -6,8 +6,8 @@ use Rattle.elastic_query.proofs.query.look.Goals as goal
 pub overflow_sub-probing : goal.overflow_sub-probing
 overflow_sub-probing g c = valid_levels c.requires
 
-pub find-requires : goal.find-requires
-find-requires g c = valid_queried c.requires
+pub invariant_of-find : goal.invariant_of-find
+invariant_of-find g c = let q = valid_queried c.requires in record { fits = q.0; some = q.1 }
 
 pub returns : goal.returns
 returns g c =

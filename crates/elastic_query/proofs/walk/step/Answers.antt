@@ -1,7 +1,7 @@
--- `elastic_query::query::step` meets its contract. Assumes nothing.
+-- `elastic_query::walk::step` meets its contract. Assumes nothing.
 use native.Mathlib.Omega.{arith}
 use Rattle.elastic_probe.specs.TreeLaws.{node_j, node_past, node_size, next_down, next_leaf, ends_start}
-use Rattle.elastic_query.proofs.query.step.Goals as goal
+use Rattle.elastic_query.proofs.walk.step.Goals as goal
 
 pub overflow_mul-result-then-node-ge16 : goal.overflow_mul-result-then-node-ge16
 overflow_mul-result-then-node-ge16 c = omega (arith, node_j _ _ _ c.requires.0)

@@ -1,8 +1,8 @@
--- `elastic_steps::steps::uniform` meets its contract: each return is a law of the search. Assumes nothing.
+-- `elastic_steps::steps::Table::uniform` meets its contract: each return is a law of the search. Assumes nothing.
 use Rattle.std.proofs.Common.{ap, ◌∙◌, Ok}
 use Rattle.std.proofs.lemmas.Result.{err_from_is_err_and}
 use Rattle.elastic_steps.specs.InsertLaws.{uniform_vacant, uniform_passed, uniform_refused}
-use Rattle.elastic_steps.proofs.steps.uniform.Goals as goal
+use Rattle.elastic_steps.proofs.steps.Table.uniform.Goals as goal
 
 pub returns-in_err-vacant : goal.returns-in_err-vacant
 returns-in_err-vacant c =

@@ -1,8 +1,13 @@
--- `elastic_steps::steps::then_next` meets its contract: each return is a law of the search. Assumes nothing.
+-- `elastic_steps::steps::Table::then_next` meets its contract: each return is a law of the search. Assumes nothing.
+use native.Mathlib.Omega.{arith}
+use Rattle.geometry.specs.ElasticLaws.{levels_facts}
 use Rattle.std.proofs.Common.{ap, ◌∙◌, Ok}
 use Rattle.std.proofs.lemmas.Result.{err_from_is_err_and}
 use Rattle.elastic_steps.specs.InsertLaws.{budgeted_vacant, budgeted_passed, budgeted_refused}
-use Rattle.elastic_steps.proofs.steps.then_next.Goals as goal
+use Rattle.elastic_steps.proofs.steps.Table.then_next.Goals as goal
+
+pub overflow_add-current : goal.overflow_add-current
+overflow_add-current c = omega (arith, c.requires.0, (levels_facts c.args.self.now.st.n c.args.self.now.st.e c.args.self.now.valid.config).few)
 
 pub returns-in_err-vacant : goal.returns-in_err-vacant
 returns-in_err-vacant c =

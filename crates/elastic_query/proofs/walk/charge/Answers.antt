@@ -1,8 +1,8 @@
--- `elastic_query::query::charge` meets its contract. Assumes nothing.
+-- `elastic_query::walk::charge` meets its contract. Assumes nothing.
 use mathlib.Core.Path.{sym}
 use borrow.Author.Tests.{eq-eqb, ne_eqb}
 use Rattle.elastic_query.specs.QuerySteps.{charged}
-use Rattle.elastic_query.proofs.query.charge.Goals as goal
+use Rattle.elastic_query.proofs.walk.charge.Goals as goal
 
 pub returns-then-i-j-eq0 : goal.returns-then-i-j-eq0
 unfolding charged

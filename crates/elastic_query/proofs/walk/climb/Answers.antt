@@ -1,6 +1,6 @@
 use native.Mathlib.Omega.{arith}
 use Rattle.elastic_probe.specs.TreeLaws.{ends_j, ends_over, ends_up, ends_root, ends_pos}
-use Rattle.elastic_query.proofs.query.climb.Goals as goal
+use Rattle.elastic_query.proofs.walk.climb.Goals as goal
 
 pub loop-j-init : goal.loop-j-init
 loop-j-init c = c.requires
