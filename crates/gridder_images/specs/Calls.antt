@@ -1,15 +1,12 @@
 -- The exported calls on images: what each answers and leaves. Assumes nothing.
-use Rattle.std.specs.Prelude.{List, [], ℕ, length}
+use Rattle.std.specs.Prelude.{Ok, Err, List, [], ℕ, length}
 use Rattle.refusal.specs.Table.{number_of, name_of}
 use Rattle.refusal.specs.declared.Name.TheVariants as name
 use Rattle.words.specs.Pick.{pick}
-use Rattle.geometry.specs.declared.config.Gated.{Gated}
-use Rattle.geometry.specs.declared.config.Gated.TheVariants.{Passed, Refused}
+use Rattle.geometry.specs.Config.{Gated}
 use Rattle.funnel.specs.declared.table.FunnelTable.{FunnelTable}
 use Rattle.image_calls.specs.Calls.{write_gate, loaded_of, loaded_report, written_report}
-use Rattle.image_calls.specs.Loading.{Loads, load_of}
-use Rattle.image_calls.specs.declared.loader.Filled.{Filled}
-use Rattle.image_calls.specs.declared.loader.Filled.TheVariants as filled
+use Rattle.image_calls.specs.Loading.{LoadAnswer, Loads, load_of}
 use Rattle.image_writer.specs.Writing.{Writes, head_of, write_of}
 use Rattle.lent.specs.Lent.{words_of, word_count}
 use Rattle.gridder_answer.specs.Gate.{block_gate}
@@ -21,14 +18,13 @@ use Rattle.gridder_images.specs.Say.{filled_fields, written_fields}
 -- ---- loading
 
 -- "sets the count from 6"; a refusal leaves the state as on entry
-unfoldable pub filled_in : List ℕ → Filled → List ℕ
-filled_in state (filled.Image place) = state
-filled_in state filled.Foreign = state
-filled_in state (filled.Done count at len) = with_count_in state count
+unfoldable pub filled_in : List ℕ → LoadAnswer → List ℕ
+filled_in state (Err r) = state
+filled_in state (Ok f) = with_count_in state f.count
 
 unfoldable pub load_left : (answer state words flags : List ℕ) → Gated → FunnelTable → Loads → Left
-load_left answer state words flags (Refused g) table l = left (number_of (name_of g)) (saying answer []) state words flags
-load_left answer state words flags Passed table l =
+load_left answer state words flags (Err g) table l = left (number_of (name_of g)) (saying answer []) state words flags
+load_left answer state words flags (Ok _) table l =
     left (loaded_report (loaded_of table l.answer)).number (says (filled_fields l.answer)) (filled_in state l.answer) l.words l.flags
 
 -- words are given and left as the words that the bytes are; "one that holds no state, is STATE ..; then .. the answer block stays as it was"
@@ -60,8 +56,8 @@ abbrev pub write_state_gate : (state words flags label answer : List ℕ) → Ga
 write_state_gate state words flags label answer = write_call_gate (table_in state) (counts_in state) (word_count (length words)) (length flags) (length label) (length answer)
 
 unfoldable pub write_left : (answer image : List ℕ) → Gated → Writes → Sent
-write_left answer image (Refused g) w = sent (number_of (name_of g)) (saying answer []) image
-write_left answer image Passed w = sent (written_report w.answer).number (says (written_fields w.answer)) w.out
+write_left answer image (Err g) w = sent (number_of (name_of g)) (saying answer []) image
+write_left answer image (Ok _) w = sent (written_report w.answer).number (says (written_fields w.answer)) w.out
 
 unfoldable pub write_call : (state words flags label image answer : List ℕ) → Sent
 write_call state words flags label image answer =

@@ -1,14 +1,12 @@
 -- `gridder_images::say::say_load` meets its contract. Case by case. Assumes nothing.
-use mathlib.Core.Path.{refl, ◌∙◌}
+use Rattle.std.proofs.Common.{◌≡◌, ◌∙◌, ap, Err}
+use Rattle.image_calls.specs.Loading.{LoadAnswer}
+use Rattle.image_calls.specs.declared.loader.LoadRefusal.TheVariants as refusal
 use Rattle.gridder_images.specs.SayLaws.{load_says}
 use Rattle.gridder_answer.specs.AnswerLaws.{says_none}
 use Rattle.gridder_images.proofs.say.say_load.Goals as goal
 
-pub returns-in-Image : goal.returns-in-Image
-returns-in-Image c = load_says _ _ _ _ c.in-Image.is c.number.ensures c.say_number.ensures
-
-pub returns-in-Foreign : goal.returns-in-Foreign
-returns-in-Foreign c = load_says _ _ _ _ c.in-Foreign.is c.number-in-Foreign.ensures (c.clear_bytes.ensures ∙ says_none _ c.requires)
-
-pub returns-in-Done : goal.returns-in-Done
-returns-in-Done c = load_says _ _ _ _ c.in-Done.is refl c.say_both.ensures
+pub returns-in-Err-Foreign : goal.returns-in-Err-Foreign
+returns-in-Err-Foreign c =
+    let e : ◌≡◌ {A = LoadAnswer} c.args.loaded (Err refusal.Foreign) = c.in-Err-Foreign.is ∙ ap Err (rw c.in-Err-Foreign.is at c.in-Err-Foreign.field-0-is) in
+    load_says _ _ _ _ e c.number-in-Err-Foreign.ensures (c.clear_bytes.ensures ∙ says_none _ c.told-answer)
