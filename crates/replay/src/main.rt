@@ -6,6 +6,8 @@
 
 #![tactic(auto)]
 
+ghost use Rattle.std.specs.Prelude.{◌≡◌, length};
+
 use script::request::Form;
 use script_elastic::held;
 use script_images::held::command;
@@ -18,8 +20,14 @@ use text::out::Out;
 struct Replay;
 
 fn main(rt: HostRuntime) {
-    // The longest line has 524,288 bytes; one byte more tells a longer one.
-    answer_lines::<Replay, _>(&mut rt.stdin(), &mut [0; 524289]);
+    answer_lines::<Replay, _>(&mut rt.stdin(), &mut line_buffer());
+}
+
+// The longest line has 524,288 bytes; one byte more tells a longer one.
+fn line_buffer() -> [u8; 524289]
+    ensures { 524289 ≡ length result }
+{
+    [0; 524289]
 }
 
 impl Answer for Replay {

@@ -1,7 +1,8 @@
 // Fields of a line, and numbers: plain decimals, or 0x and hexadecimal digits.
-ghost use Rattle.std.specs.Prelude.{◌≤◌};
-ghost use Rattle.std.specs.Iterator.{at_most};
-ghost use Rattle.text.specs.Fields.{fields_left};
+ghost use Rattle.std.specs.Prelude.{◌≡◌, ◌+◌, ◌≤◌, [], ◌∷◌, length, IfSome};
+ghost use Rattle.std.specs.Iterator.{item_count, YieldsFirstRef};
+ghost use Rattle.std.specs.Option.{option_map_or};
+ghost use Rattle.text.specs.Fields.{fields_of, fields_left};
 
 use words::product::Wide;
 
@@ -12,22 +13,30 @@ pub struct Fields<'a> {
 }
 
 impl<'a> Fields<'a> {
-    pub fn new(line: &'a [u8]) -> Fields<'a> {
+    pub fn new(line: &'a [u8]) -> Fields<'a>
+        ensures { fields_left result ≡ fields_of line.now }
+    {
         Fields { rest: Some(line) }
     }
 
     // All that is left of the line as one field, or none.
-    pub fn last(self) -> Option<&'a [u8]> {
+    pub fn last(self) -> Option<&'a [u8]>
+        ensures { fields_left self.entry ≡ option_map_or (λ rest. fields_of rest.now) result [] }
+    {
         self.rest
     }
 
     // The next field as a number, or none.
-    pub fn number(&mut self) -> Option<u64> {
+    pub fn number(&mut self) -> Option<u64>
+        ensures { IfSome result (λ _. length (fields_left self.old) ≡ length (fields_left self.new) + 1) }
+    {
         number(self.next()?)
     }
 
     // The next fields as numbers, or none where there are fewer or one is no number.
-    pub fn numbers<const N: usize>(&mut self) -> Option<[u64; N]> {
+    pub fn numbers<const N: usize>(&mut self) -> Option<[u64; N]>
+        ensures { IfSome result (λ _. length (fields_left self.old) ≡ length (fields_left self.new) + N) }
+    {
         let mut row = [0; N];
         for x in row.iter_mut() {
             *x = self.number()?;
@@ -36,7 +45,9 @@ impl<'a> Fields<'a> {
     }
 
     // All fields that are left as numbers, or none where there are more or fewer or one is no number.
-    pub fn just_numbers<const N: usize>(mut self) -> Option<[u64; N]> {
+    pub fn just_numbers<const N: usize>(mut self) -> Option<[u64; N]>
+        ensures { IfSome result (λ _. length (fields_left self.entry) ≡ N) }
+    {
         let row = self.numbers()?;
         match self.rest {
             None => Some(row),
@@ -48,21 +59,28 @@ impl<'a> Fields<'a> {
 impl<'a> Iterator for Fields<'a> {
     type Item = &'a [u8];
 
-    ghost remaining = { λ s. at_most (fields_left s) };
+    ghost next_gives = { YieldsFirstRef fields_left };
+
+    ghost remaining = { item_count fields_left };
 
     fn next(&mut self) -> Option<&'a [u8]> {
         let rest = self.rest?;
-        match rest.iter().position(|b| *b == b' ') {
-            Some(space) => {
-                self.rest = Some(&rest[space + 1..]);
-                Some(&rest[..space])
-            }
-            None => {
-                self.rest = None;
-                Some(rest)
-            }
+        let (field, after) = split_first_field(rest);
+        self.rest = after;
+        Some(field)
+    }
+}
+
+// The field that a line begins with, and what stands behind the space after it, if there is one.
+fn split_first_field(line: &[u8]) -> (&[u8], Option<&[u8]>)
+    ensures { fields_of line.now ≡ result.0.now ∷ option_map_or (λ rest. fields_of rest.now) result.1 [] }
+{
+    for (at, b) in line.iter().enumerate() {
+        if *b == b' ' {
+            return (&line[..at], Some(&line[at + 1..]));
         }
     }
+    (line, None)
 }
 
 // One digit more behind a number, or none where it has no room.

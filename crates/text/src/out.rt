@@ -85,4 +85,3 @@ impl fmt::Write for Out {
         Ok(())
     }
 }
-
