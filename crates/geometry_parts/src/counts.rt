@@ -1,5 +1,7 @@
 // The bucket counts of a funnel's levels: what may follow a count, the first count, and all of them.
 // Carries the Rust's `nearest_feasible_first_count`, `select_largest_feasible_next` and their helpers.
+//
+// That there is a level, 0 < levels, stands in each contract: as a type of nonzero numbers it would be taken out again in every range and every index.
 ghost use Rattle.std.specs.Prelude.{◌≡◌, ℕ, ◌<◌, ◌≤◌, leb, length};
 ghost use Rattle.geometry.specs.Extreme.{IsLargest, IsSmallest};
 ghost use Rattle.geometry.specs.Counts.{low, high, low_sum, high_sum, Follows, First};

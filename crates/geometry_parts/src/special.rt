@@ -1,5 +1,8 @@
 // The special length of a funnel: its bounds, and the search from the top of its range.
 // Carries `largest_compatible_special_layout` and `base_two_loglog_ceiling` of the Rust.
+//
+// n, e, h and w stay numbers whose bounds each contract has: a type for each would be opened again in every product, which only asks that it fits
+// a word, and each function has other bounds.
 ghost use Rattle.std.specs.Prelude.{◌≡◌, ℕ, ◌*◌, ◌<◌, ◌≤◌};
 ghost use Rattle.geometry.specs.Special.{Below, Found, FoundFor, loglog, special_least, special_most};
 

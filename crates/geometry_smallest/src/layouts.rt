@@ -1,4 +1,5 @@
-// The smallest n from a start on that has a layout.
+// The smallest n from a start on that has a layout. The bounds of n and e stand in each contract: the search makes a new n in every turn, which a type
+// would have to be made of each time.
 ghost use Rattle.std.specs.Prelude.{◌+◌, ◌*◌, ◌<◌, ◌≤◌};
 ghost use Rattle.geometry_smallest.specs.Layouts.{Alike, FirstLayout, LengthFrom, Next, SlotsFrom};
 

@@ -13,6 +13,7 @@ use words::place::Place;
 // "a lent 128-byte block"
 pub const ANSWER_LENGTH: usize = 128;
 
+// Where the numbers lie; offsets and no enum, since C reads them there.
 pub const PROBES: usize = 0;
 
 pub const KIND: usize = 8;
@@ -123,7 +124,7 @@ pub fn say_placement(
     }
 }
 
-// One number alone.
+// One number alone. One number and two have a function each: over a slice of pairs, the bound of an offset would be a fact of every pair.
 pub fn say_number(answer: &mut [u8; ANSWER_LENGTH], at: usize, x: u64)
     requires { at + 8 ≤ 128 }
     ensures { answer.new ≡ says (field at x ∷ []) }

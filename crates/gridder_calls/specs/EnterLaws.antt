@@ -19,6 +19,7 @@ use Rattle.gridder_calls.specs.Enter.{Entry, Enters}
 use Rattle.gridder_calls.specs.declared.enter.EnterRefusal.{EnterRefusal}
 use Rattle.gridder_calls.specs.declared.enter.EnterRefusal.TheVariants as entered
 use Rattle.gridder_state.specs.State.{holds_funnel, table_in, counts_in, Reads}
+use Rattle.gridder_state.specs.StateLaws.{reads_none, reads_some}
 
 -- ---- the gate
 
@@ -71,13 +72,12 @@ module _ {table : FunnelTable} {counts words flags answer : List ℕ} (r : Ready
 
 module _ (state before : List ℕ) (words flags answer : ℕ) (read : Option FunnelTable) (counts : List ℕ) (reads : Reads state before read counts) where
   pub enters_unheld : read ≡ None → Enters state words flags answer (Err entered.Unheld) counts
-  unfolding Enters Reads
-  enters_unheld n = (rw n at reads).0
+  unfolding Enters
+  enters_unheld n = reads_none state before counts read reads n
 
   module _ (table : FunnelTable) (is_read : read ≡ Some table) (entries : ℕ) (g : Gated) (w : entries ≡ word_count words) (is : g ≡ call_gate table counts entries flags answer) where
     read_is : (holds_funnel state ≡ true) × (table ≡ table_in state) × (counts ≡ counts_in state)
-    unfolding Reads
-    read_is = rw is_read at reads
+    read_is = reads_some state before counts read reads table is_read
 
     said : call_gate (table_in state) (counts_in state) (word_count words) flags answer ≡ g
     said = sym (is ∙ rw (read_is.1, read_is.2, w))

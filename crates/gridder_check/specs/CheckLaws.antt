@@ -1,6 +1,6 @@
 -- Laws of the exported check, by what its gate said. Assumes nothing.
 use Rattle.std.proofs.Math.Bool.{true}
-use Rattle.std.specs.Prelude.{false, ◌≡◌, ℕ, ◌*◌, replicate}
+use Rattle.std.specs.Prelude.{Ok, Err, false, ◌≡◌, ℕ, ◌*◌, replicate}
 use mathlib.Core.List.{List, []}
 use Rattle.std.proofs.Math.Path.{ap}
 use Rattle.std.proofs.Common.{sym, ◌∙◌, arith}
@@ -8,18 +8,16 @@ use Rattle.std.proofs.Math.ListN.{length, length-replicate}
 use Rattle.refusal.specs.Table.{number_of, name_of}
 use Rattle.refusal.specs.declared.Gate.{Gate}
 use Rattle.refusal.specs.declared.Name.TheVariants as name
-use Rattle.geometry.specs.declared.config.Gated.{Gated}
-use Rattle.geometry.specs.declared.config.Gated.TheVariants.{Passed, Refused}
+use Rattle.geometry.specs.Config.{Gated}
 use Rattle.funnel.specs.CallLaws.{valid_gate}
 use Rattle.funnel.specs.Calls.{table_gate}
 use Rattle.funnel.specs.Valid.{Valid}
 use Rattle.funnel.specs.declared.table.FunnelTable.{FunnelTable}
-use Rattle.audit_calls.specs.Check.{ended, audit_of, report_of, Lent}
+use Rattle.audit_calls.specs.Check.{Checked, ended, audit_of, report_of, Lent}
 use Rattle.audit_calls.specs.CheckLaws.{gate_lent}
-use Rattle.audit_calls.specs.declared.check.Checked.{Checked}
-use Rattle.lent.specs.Lent.{words_of, words_in, word_count}
+use Rattle.lent.specs.Lent.{words_of, whole_of, word_count}
 use Rattle.lent.specs.LentLaws.{count_some, length_whole}
-use Rattle.lent.specs.StoreLaws.{in_whole}
+use Rattle.lent.specs.StoreLaws.{whole_words}
 use Rattle.funnel.specs.EdgeLaws.{lent_in, valid_in}
 use Rattle.gridder_answer.specs.GateLaws.{block_facts}
 use Rattle.gridder_answer.specs.Answer.{answer_length, says, saying, Reply, reply}
@@ -35,15 +33,15 @@ module _ (done : Checked) (n : ℕ) (a : List ℕ) where
 
 -- what it says that a check's gate passed: the words and the order are whole, and the engine can be lent them
 pub record CheckReady (table : FunnelTable) (counts words flags marks order answer : List ℕ) : Type 0 where
-  pub valid : Valid table counts (words_in true [] words) flags
+  pub valid : Valid table counts (whole_of words) flags
   pub marks_n : length marks ≡ table.n
-  pub order_n : length (words_in true [] order) ≡ table.n
+  pub order_n : length (whole_of order) ≡ table.n
   pub words_whole : length words ≡ table.n * 8
   pub order_whole : length order ≡ table.n * 8
   pub room : length answer ≡ answer_length
 
 module _ (table : FunnelTable) (counts words flags marks order : List ℕ) where
-  check_ready : (answer : List ℕ) → check_call_gate table counts (word_count (length words)) (length flags) (length marks) (word_count (length order)) (length answer) ≡ Passed
+  check_ready : (answer : List ℕ) → check_call_gate table counts (word_count (length words)) (length flags) (length marks) (word_count (length order)) (length answer) ≡ Ok tt
       → CheckReady table counts words flags marks order answer
   unfolding check_call_gate
   check_ready answer h =
@@ -52,7 +50,7 @@ module _ (table : FunnelTable) (counts words flags marks order : List ℕ) where
       let o : length (replicate {A = ℕ} (word_count (length order)) 0) ≡ word_count (length order) = length-replicate (word_count (length order)) 0 in
       let l : Lent table counts (replicate (word_count (length words)) 0) flags marks (replicate (word_count (length order)) 0) =
       gate_lent table counts (replicate (word_count (length words)) 0) flags marks (replicate (word_count (length order)) 0) (rw (w, o) f.0) in
-      let t : table_gate table counts (word_count (length words)) (length flags) ≡ Passed = rw w at (valid_gate l.valid) in
+      let t : table_gate table counts (word_count (length words)) (length flags) ≡ Ok tt = rw w at (valid_gate l.valid) in
       let two = l.valid.planned.configured.least in
       let v = lent_valid table counts words flags t in
       let e : length order ≡ table.n * 8 = count_some (length order) table.n (omega arith) (sym o ∙ l.order_n) in
@@ -70,16 +68,16 @@ module _ (table : FunnelTable) (counts words flags marks order : List ℕ) where
 module _ (state words flags marks order answer : List ℕ) (table : FunnelTable) (counts : List ℕ) (entries places : ℕ)
     (t : table ≡ table_in state) (k : counts ≡ counts_in state) (w : entries ≡ word_count (length words)) (o : places ≡ word_count (length order))
     (g : Gated) (is : g ≡ check_call_gate table counts entries (length flags) (length marks) places (length answer)) where
-  pub checking_ready : g ≡ Passed → CheckReady table counts words flags marks order answer
+  pub checking_ready : g ≡ Ok tt → CheckReady table counts words flags marks order answer
   checking_ready p =
       check_ready table counts words flags marks order answer
-      (let h : check_call_gate table counts entries (length flags) (length marks) places (length answer) ≡ Passed = sym is ∙ p in rw (← w, ← o) h)
+      (let h : check_call_gate table counts entries (length flags) (length marks) places (length answer) ≡ Ok tt = sym is ∙ p in rw (← w, ← o) h)
 
   gate_of_lem : g ≡ check_call_gate (table_in state) (counts_in state) (word_count (length words)) (length flags) (length marks) (word_count (length order)) (length answer)
   gate_of_lem = is ∙ rw (t, k, w, o)
 
   module _ (held : holds_funnel state ≡ true) (number : ℕ) (answer' : List ℕ) where
-    pub checking_refused : (x : Gate) → g ≡ Refused x → reply number answer' ≡ reply (number_of (name_of x)) (saying answer [])
+    pub checking_refused : (x : Gate) → g ≡ Err x → reply number answer' ≡ reply (number_of (name_of x)) (saying answer [])
         → check_left number answer' marks (words_of order) ≡ check_call state words flags marks order answer
     unfolding check_call check_by
     checking_refused x p e =
@@ -88,20 +86,20 @@ module _ (state words flags marks order answer : List ℕ) (table : FunnelTable)
         rw (n, a) (sym (rw (held, ← gate_of_lem, p)))
 
     -- what the engine leaves, with the numbers it was not lent
-    pub checking_passed : (d : Checked) (marks' told order' : List ℕ) → g ≡ Passed → length order' ≡ length order
-        → ended d marks' (words_in true told order') ≡ audit_of table counts (words_in true [] words) flags marks (words_in true [] order)
+    pub checking_passed : (d : Checked) (marks' order' : List ℕ) → g ≡ Ok tt → length order' ≡ length order
+        → ended d marks' (whole_of order') ≡ audit_of table counts (whole_of words) flags marks (whole_of order)
         → reply number answer' ≡ reply (report_of d).number (says (checked_fields d))
         → check_left number answer' marks' (words_of order') ≡ check_call state words flags marks order answer
     unfolding check_call check_by
-    checking_passed d marks' told order' p l i e =
+    checking_passed d marks' order' p l i e =
         let n : number ≡ (report_of d).number = ap (λ (r : Reply). r.number) e in
         let a : answer' ≡ says (checked_fields d) = ap (λ (r : Reply). r.answer) e in
         let r = checking_ready p in
         let whole = r.words_whole in
         let ordered = r.order_whole in
-        let x : words_in true [] words ≡ words_of words = lent_in words (omega arith) in
-        let y : words_in true [] order ≡ words_of order = lent_in order (omega arith) in
-        let z : words_in true told order' ≡ words_of order' = in_whole told order' (omega arith) in
+        let x : whole_of words ≡ words_of words = lent_in words (omega arith) in
+        let y : whole_of order ≡ words_of order = lent_in order (omega arith) in
+        let z : whole_of order' ≡ words_of order' = whole_words order' (omega arith) in
         let j : ended d marks' (words_of order') ≡ audit_of table counts (words_of words) flags marks (words_of order) = rw (x, y, z) at i in
         rw (n, a) (sym (rw (held, ← gate_of_lem, p, ← t, ← k, ← j)))
 

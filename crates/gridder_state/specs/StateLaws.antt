@@ -1,5 +1,5 @@
 -- Laws of the state block: what it is that it holds a state. Assumes nothing.
-use Rattle.std.specs.Prelude.{Bool, true, false, List, ◌∷◌, ◌≡◌, refl, ℕ, ◌<◌, eqb, ltb, length, replicate}
+use Rattle.std.specs.Prelude.{Option, Some, None, Bool, true, false, List, ◌∷◌, ◌≡◌, refl, ℕ, ◌<◌, eqb, ltb, length, replicate}
 use Rattle.std.proofs.Math.Path.{sym}
 use Rattle.std.proofs.Common.{◌∙◌, arith}
 use Rattle.std.proofs.lemmas.List.Edits.{sets}
@@ -8,7 +8,7 @@ use Rattle.words.specs.Bytes.{num_at}
 use Rattle.words.specs.Pick.{pick}
 use Rattle.funnel.specs.declared.table.FunnelTable.{FunnelTable}
 use Rattle.lent.specs.Lent.{lent}
-use Rattle.gridder_state.specs.State.{state_length, funnel_kind, counts_at, holds_kind, plan_words, funnel_block}
+use Rattle.gridder_state.specs.State.{state_length, funnel_kind, counts_at, holds_kind, holds_funnel, table_in, counts_in, Reads, plan_words, funnel_block}
 
 -- test by test
 module _ (kind : ℕ) (b : List ℕ) where
@@ -48,3 +48,14 @@ pub block_written : (t : FunnelTable) (counts zeros header whole : List ℕ) (n 
     → whole ≡ sets header counts_at (lent counts) → whole ≡ funnel_block t counts
 unfolding funnel_block
 block_written t counts zeros header whole n e l i z h w = w ∙ rw (h, z, l, i)
+
+-- ---- what is read of a block
+
+module _ (state before counts : List ℕ) (read : Option FunnelTable) (reads : Reads state before read counts) where
+  pub reads_none : read ≡ None → holds_funnel state ≡ false
+  unfolding Reads
+  reads_none n = (rw n at reads).0
+
+  pub reads_some : (table : FunnelTable) → read ≡ Some table → (holds_funnel state ≡ true) × (table ≡ table_in state) × (counts ≡ counts_in state)
+  unfolding Reads
+  reads_some table n = rw n at reads

@@ -1,17 +1,11 @@
--- `gridder_check::call::say_checked` meets its contract. Case by case. Assumes nothing.
-use mathlib.Core.Path.{refl}
-use Rattle.gridder_check.specs.CheckLaws.{checked_says}
+-- `gridder_check::call::say_checked` meets its contract: a refusal of the gate says nothing but its number. Assumes nothing.
+use mathlib.Core.Path.{◌≡◌}
+use Rattle.audit_calls.specs.declared.check.CheckRefusal.TheVariants.{Gate}
 use Rattle.gridder_answer.specs.AnswerLaws.{gate_says}
 use Rattle.gridder_check.proofs.call.say_checked.Goals as goal
 
-pub returns-in-Accepted : goal.returns-in-Accepted
-returns-in-Accepted c = checked_says _ _ _ _ c.in-Accepted.is refl c.say_number.ensures
-
-pub returns-in-Disorder : goal.returns-in-Disorder
-returns-in-Disorder c = checked_says _ _ _ _ c.in-Disorder.is c.number.ensures c.say_both.ensures
-
-pub returns-in-Dirty : goal.returns-in-Dirty
-returns-in-Dirty c = checked_says _ _ _ _ c.in-Dirty.is c.number-in-Dirty.ensures c.say_number-in-Dirty.ensures
-
-pub returns-in-Gate : goal.returns-in-Gate
-returns-in-Gate c = rw c.in-Gate.is (gate_says _ _ _ _ c.requires c.say_gate.ensures)
+pub returns-in-Err-Gate : goal.returns-in-Err-Gate
+returns-in-Err-Gate c =
+    let arm = c.in-Err-Gate in
+    let is : arm.field-0 ≡ Gate arm.gate = rw arm.is at arm.field-0-is in
+    rw (arm.is, is) (gate_says _ _ _ _ c.told-answer c.say_gate.ensures)
