@@ -162,6 +162,11 @@ module _ (n e seed : ℕ) (limits : Limits) (cs ws fs : List ℕ) where
   unfolding open_of open_by
   open_fresh levels most cs' ws' fs' h a b f g k = rw (h, a, b, f, g, k)
 
+-- the state of a fresh table, by numbers that are worked out
+pub fresh_is : (n e seed : ℕ) (limits : Limits) (levels most : ℕ) → levels ≡ levels_of n → most ≡ maximum n e
+    → record { n = n; e = e; seed = seed; limits = limits; plan = record { levels = levels; maximum = most }; count = 0 } ≡ fresh_of n e seed limits
+fresh_is n e seed limits levels most a b = rw (a, b)
+
 -- what an opening that was answered says
 pub open_facts : (n e seed : ℕ) (limits : Limits) (cs ws fs : List ℕ) (st : State) (cs' ws' fs' : List ℕ) → open_of n e seed limits cs ws fs ≡ opened (Ok st) cs' ws' fs'
     → Configured n e × (fresh_of n e seed limits ≡ st) × (replicate (length cs) 0 ≡ cs') × (replicate n 0 ≡ ws') × (replicate n 0 ≡ fs')

@@ -1,7 +1,7 @@
 // The state of an elastic table, its limits, and the tests that every call begins with: 1 to 3, 6 and 7.
-ghost use Rattle.std.specs.Prelude.{◌≡◌, List, ℕ, ◌+◌, ◌-◌, ◌*◌, ◌<◌, ◌≤◌, length};
+ghost use Rattle.std.specs.Prelude.{◌≡◌};
 ghost use Rattle.geometry.specs.Elastic.{split};
-ghost use Rattle.elastic.specs.State.{cap_fits, factor_fits, limits_fit, buffers_fit, counts_fit, state_fits, setting_gate, open_gate, gate_of, opened, open_of};
+ghost use Rattle.elastic.specs.State.{cap_fits, factor_fits, limits_fit, buffers_fit, counts_fit, state_fits, setting_gate, open_gate, gate_of, opened, fresh_of, open_of};
 
 use geometry::config::{config_gate, max_insertions};
 use geometry::elastic::{ElasticPlan, is_elastic_plan, next_length};
@@ -43,19 +43,26 @@ pub fn open<E: Stored>(
     ensures { opened result counts.new (E.words words.new) flags.new ≡ open_of n e seed limits counts.old (E.words words.old) flags.old }
 {
     open_gate(n, e, limits, E::count(words) as usize, flags.len())?;
-    let levels = ceil_log2(n);
-    let maximum = max_insertions(n, e);
     clear_words(counts);
     E::clear(words);
     clear_bytes(flags);
-    Ok(State {
+    Ok(fresh(n, e, seed, limits))
+}
+
+// The state of a fresh table.
+pub fn fresh(n: u64, e: u32, seed: u64, limits: Limits) -> State
+    ensures { result ≡ fresh_of n e seed limits }
+{
+    let levels = ceil_log2(n);
+    let maximum = max_insertions(n, e);
+    State {
         n,
         e,
         seed,
         limits,
         plan: ElasticPlan { levels, maximum },
         count: 0,
-    })
+    }
 }
 
 // The tests of an opening.
@@ -131,11 +138,10 @@ fn state_fits(
     e: u32,
     plan: ElasticPlan,
     count: u64,
-    counts: &[u64],
+    counts: &[u64; 32],
     words: usize,
     flags: usize,
 ) -> bool
-    requires { length counts.now ≡ 32 }
     ensures { result ≡ state_fits n e plan count counts.now words flags }
 {
     buffers_fit(n, words, flags)
@@ -145,8 +151,7 @@ fn state_fits(
 }
 
 // Whether no level count is above its level's length, none is set beyond the last level, and they sum to the count.
-fn counts_fit(n: u64, levels: u64, count: u64, counts: &[u64]) -> bool
-    requires { length counts.now ≡ 32 }
+fn counts_fit(n: u64, levels: u64, count: u64, counts: &[u64; 32]) -> bool
     ensures { result ≡ counts_fit (split levels n) count counts.now }
 {
     let mut rest = n;

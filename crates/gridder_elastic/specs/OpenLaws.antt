@@ -6,9 +6,8 @@ use Rattle.std.proofs.Common.{sym, ◌∙◌, arith, eqb-true}
 use Rattle.std.proofs.Math.ListN.{length, replicate}
 use Rattle.refusal.specs.Table.{number_of, name_of}
 use Rattle.refusal.specs.declared.Gate.{Gate}
-use Rattle.geometry.specs.Config.{Gated, maximum}
+use Rattle.geometry.specs.Config.{Gated}
 use Rattle.geometry.specs.ConfigLaws.{config_gate_facts}
-use Rattle.geometry.specs.Elastic.{levels_of}
 use Rattle.elastic.specs.State.{setting_gate, open_gate, fresh_of}
 use Rattle.elastic.specs.StateLaws.{both_yes, demand_facts}
 use Rattle.elastic.specs.declared.state.Limits.{Limits}
@@ -77,8 +76,3 @@ module _ (n e seed : ℕ) (limits : Limits) (state words flags answer : List ℕ
         let y : flags' ≡ replicate n 0 = f.flags_are_lem ∙ ap (λ (m : ℕ). replicate m 0) r.flags_right in
         let a : answer' ≡ says [] = f.answer_is ∙ says_none _ r.answer_right in
         rw (f.number_is, a, f.state_is, s, z, y) (sym (rw (gate_of_lem, p)))
-
--- the state of a fresh table, by numbers that are worked out
-pub fresh_is : (n e seed : ℕ) (limits : Limits) (levels most : ℕ) → levels ≡ levels_of n → most ≡ maximum n e
-    → record { n = n; e = e; seed = seed; limits = limits; plan = record { levels = levels; maximum = most }; count = 0 } ≡ fresh_of n e seed limits
-fresh_is n e seed limits levels most a b = rw (a, b)

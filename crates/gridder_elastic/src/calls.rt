@@ -1,17 +1,15 @@
 // The calls on elastic tables, for a state block that holds one; an opening for any.
 ghost use Rattle.std.specs.Prelude.{◌≡◌, length};
-ghost use Rattle.elastic.specs.State.{fresh_of};
 ghost use Rattle.lent.specs.Lent.{words_of};
 ghost use Rattle.gridder_answer.specs.Answer.{reply};
 ghost use Rattle.gridder_calls.specs.Calls.{left};
 ghost use Rattle.gridder_elastic.specs.Calls.{query_call, insert_call, open_blocks_gate, Fresh};
 
 use crate::enter::enter;
+pub use elastic::state::fresh;
 use elastic::state::{Limits, State, open_gate};
 use elastic_insert::insert::place;
 use elastic_query::query::look;
-use geometry::config::max_insertions;
-use geometry::elastic::ElasticPlan;
 use gridder_answer::answer::ANSWER_LENGTH;
 use gridder_answer::gate::block_gate;
 use gridder_calls::enter::refuse;
@@ -20,7 +18,6 @@ use gridder_elastic_state::state::{write_counts, write_state};
 use gridder_state::state::STATE_LENGTH;
 use refusal::Gate;
 use words::clear::clear_bytes;
-use words::power::ceil_log2;
 
 // Where an identity is: said in the answer block, with the number of a refusal.
 pub fn query_in(state: &[u8], words: &[u8], flags: &[u8], identity: u64, answer: &mut [u8]) -> u64
@@ -73,22 +70,6 @@ pub fn open_blocks_gate(
 {
     let tested = block_gate(open_gate(n, e, limits, words, flags), state, STATE_LENGTH);
     block_gate(tested, answer, ANSWER_LENGTH)
-}
-
-// The state of a fresh table.
-pub fn fresh(n: u64, e: u32, seed: u64, limits: Limits) -> State
-    ensures { result ≡ fresh_of n e seed limits }
-{
-    let levels = ceil_log2(n);
-    let maximum = max_insertions(n, e);
-    State {
-        n,
-        e,
-        seed,
-        limits,
-        plan: ElasticPlan { levels, maximum },
-        count: 0,
-    }
 }
 
 // A fresh table into its block: words, flags and answer are zeroed.

@@ -143,6 +143,7 @@ fn told(trial: Result<Index, u64>, draw: Draw, probe: LogicalProbe) -> Result<In
 }
 
 // The index that the first word gives where it is accepted at once, else upper. For loops that leave the rest to `funnel_draw`.
+// That upper stands for none is no plainer as an Option: the walks carry what this gives ahead, and test it against the length as any index.
 pub fn first_index(key: FunnelKey, base: u64, upper: u64) -> u64
     requires { 0 < upper }
     ensures { FirstIndex key.inner key.outer base upper result }

@@ -1,8 +1,6 @@
 -- `elastic::state::open` meets its contract: the gate refuses, or all three lists are zeroed. Assumes nothing.
-use mathlib.Core.Path.{sym, ◌∙◌}
-use native.Mathlib.Omega.{arith}
+use mathlib.Core.Path.{sym, ◌∙◌, refl}
 use Rattle.std.proofs.lemmas.Result.{err_from_is_err_and}
-use Rattle.words.specs.LogLaws.{log_computed}
 use Rattle.elastic.specs.StateLaws.{open_refused, open_fresh}
 use Rattle.elastic.proofs.state.open.Goals as goal
 
@@ -13,6 +11,5 @@ returns-in_err-open_gate g c =
 
 pub returns : goal.returns
 returns g c =
-    open_fresh _ _ _ _ _ _ _ _ _ _ _ _ (sym (rw c.count.ensures at c.open_gate.ensures) ∙ c.in_ok-open_gate.was)
-    (log_computed _ _ (omega arith) c.ceil_log2-levels.ensures) c.max_insertions-maximum.ensures
-    c.clear_words.ensures c.clear.ensures c.clear_bytes.ensures
+    rw c.fresh.ensures (open_fresh _ _ _ _ _ _ _ _ _ _ _ _ (sym (rw c.count.ensures at c.open_gate.ensures) ∙ c.in_ok-open_gate.was)
+    refl refl c.clear_words.ensures c.clear.ensures c.clear_bytes.ensures)
