@@ -7,20 +7,8 @@ use Rattle.image_calls.proofs.loader.fill_image.Goals as goal
 pub loop-tag-init : goal.loop-tag-init
 loop-tag-init g c = let q = c.requires in (onward_none _ _ _ q.0 q.1 q.2, refl)
 
-pub frame-requires : goal.frame-requires
-frame-requires g c = c.loop-tag.invariant.0.within
-
-pub shape_of-words-then-tag-eq6 : goal.shape_of-words-then-tag-eq6
-shape_of-words-then-tag-eq6 g c = c.loop-tag.invariant.1
-
-pub shape_of-flags-then-tag-eq6 : goal.shape_of-flags-then-tag-eq6
-shape_of-flags-then-tag-eq6 g c = (onward_sizes c.loop-tag.invariant.0).1
-
 pub returns-then-tag-eq6 : goal.returns-then-tag-eq6
 returns-then-tag-eq6 g c = onward_last c.loop-tag.invariant.0 _ _ (sym c.frame.ensures ∙ c.in-Ok.is) c.if-tag-eq6.true
-
-pub overflow_add-body : goal.overflow_add-body
-overflow_add-body g c = let f = onward_framing c.loop-tag.invariant.0 _ _ (sym c.frame.ensures ∙ c.in-Ok.is) in omega (arith, f.within)
 
 pub overflow_add-at : goal.overflow_add-at
 overflow_add-at g c = let f = onward_framing c.loop-tag.invariant.0 _ _ (sym c.frame.ensures ∙ c.in-Ok.is) in omega (arith, f.within)
@@ -44,12 +32,6 @@ loop-tag-smaller g c = let f = onward_framing c.loop-tag.invariant.0 _ _ (sym c.
 
 pub loop-tag-preserved : goal.loop-tag-preserved
 loop-tag-preserved g c = let l = c.loop-tag.invariant in (rw c.low_after-low.ensures (onward_other l.0 _ _ (sym c.frame.ensures ∙ c.in-Ok.is) c.if-tag-eq6.false c.if-tag-eq5.false), l.1)
-
-pub shape_of-words : goal.shape_of-words
-shape_of-words g c = c.loop-tag.invariant.1
-
-pub shape_of-flags : goal.shape_of-flags
-shape_of-flags g c = (onward_sizes c.loop-tag.invariant.0).1
 
 pub returns : goal.returns
 returns g c = onward_wrong c.loop-tag.invariant.0 _ (sym c.frame.ensures ∙ c.in_default.is)
