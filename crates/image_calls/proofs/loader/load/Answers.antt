@@ -1,8 +1,6 @@
 -- `image_calls::loader::load` meets its contract. Assumes nothing.
 use mathlib.Core.Path.{sym, ◌∙◌}
-use native.Mathlib.Omega.{arith}
-use lib.ListN.{length-replicate}
-use Rattle.image_calls.specs.LoadingLaws.{loads_bad, loads_foreign, good_is, slots_are, loads_done, head_differs, head_equal}
+use Rattle.image_calls.specs.LoadingLaws.{loads_bad, loads_foreign, loads_done, head_differs, head_equal}
 use Rattle.image_calls.proofs.loader.load.Goals as goal
 
 pub returns-in-Err : goal.returns-in-Err
