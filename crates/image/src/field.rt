@@ -64,6 +64,7 @@ pub fn frame(image: &[u8], low: u8, at: usize) -> Result<Field, usize>
 }
 
 // The format: its kinds of field in their order, each with its tag and length. Past the last a kind that no field has.
+#[tactic(auto, using(crate::specs::KindLaws::kind_past), unfolding(crate::specs::Reading::kind_at, crate::specs::Format::fields))]
 fn kind_at(rank: u8) -> Kind
     ensures { result ≡ kind_at fields rank }
 {
@@ -107,6 +108,7 @@ fn number(tag: u8, size: usize) -> Kind
 }
 
 // The place of a tag's kind in the format, the number of kinds for a byte that is no tag.
+#[tactic(auto, using(crate::specs::KindLaws::rank_none), unfolding(crate::specs::Reading::rank_of, crate::specs::Format::fields))]
 fn rank(tag: u8) -> u8
     ensures { result ≡ rank_of fields tag }
 {

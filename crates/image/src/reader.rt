@@ -22,7 +22,8 @@ pub struct Cursor {
     pub floor: u64,
 }
 
-// What an image says, but for its entries.
+// What an image says, but for its entries. The label's place is two zeros where there is none, and no Option: so the loader answers it to C, and so
+// `load_image_after_write_image` says it.
 #[derive(Clone, Copy, Debug, PartialEq, Eq)]
 pub struct Outline {
     pub head: Head,

@@ -1,4 +1,5 @@
-// The writer: the image of a table, into an output that a caller lends.
+// The writer: the image of a table, into an output that a caller lends. Each function gets the whole output and an offset beside it, since each
+// promises of the whole what stays as it was (`Put`).
 ghost use Rattle.std.specs.Prelude.{◌∷◌, ◌≡◌, ◌+◌, ◌*◌, ◌≤◌, ◌^◌, length};
 ghost use Rattle.std.proofs.lemmas.List.Edits.{sets};
 ghost use Rattle.words.specs.Bytes.{bytes_of};

@@ -1,4 +1,6 @@
-// Chains of numbers that wait: cleared, added to, and taken off.
+// Chains of numbers that wait: cleared, added to, and taken off. A caller lends the bytes anew for each call, and each promises of all of them what
+// stays as it was (`Filed`, `Popped`, `Woken`), so there is no struct that holds them. A link stays the number that lies in the bytes, 0 for none: it is
+// copied from place to place as it is.
 ghost use Rattle.std.specs.Prelude.{◌≤◌, ◌<◌, length};
 ghost use Rattle.waiting.specs.Links.{space, Fits, Cleared, Filed, Popped};
 ghost use Rattle.waiting.specs.Waiting.{Chained, Woken};

@@ -1,8 +1,6 @@
 -- `image_calls::loader::load` meets its contract. Assumes nothing.
 use mathlib.Core.Path.{sym, ◌∙◌}
-use native.Mathlib.Omega.{arith}
-use lib.ListN.{length-replicate}
-use Rattle.image_calls.specs.LoadingLaws.{loads_bad, loads_foreign, good_is, slots_are, loads_done, head_differs, head_equal}
+use Rattle.image_calls.specs.LoadingLaws.{loads_bad, loads_foreign, loads_done, head_differs, head_equal}
 use Rattle.image_calls.proofs.loader.load.Goals as goal
 
 pub returns-in-Err : goal.returns-in-Err
@@ -12,13 +10,6 @@ pub returns-then-ne : goal.returns-then-ne
 returns-then-ne g c = let r = sym c.read.ensures ∙ c.in-Ok.is in
     let o = rw c.head_of.ensures at (head_differs c.in-Ok.outline.head c.head_of.result c.ne.result c.ne.ensures c.if-ne.true) in
     loads_foreign _ _ _ _ _ r o
-
-pub fill_image-requires : goal.fill_image-requires
-fill_image-requires g c = let p = c.requires in
-    let r = sym c.read.ensures ∙ c.in-Ok.is in
-    let o = rw c.head_of.ensures at (head_equal c.in-Ok.outline.head c.head_of.result c.ne.result c.ne.ensures c.if-ne.false) in
-    let k = slots_are _ _ r _ o in
-    (good_is _ _ r, rw (c.clear.ensures, length-replicate) (omega (arith, p.0, k)), rw (c.clear_bytes.ensures, length-replicate) (omega (arith, p.1, k)))
 
 pub returns-else-ne : goal.returns-else-ne
 returns-else-ne g c = let r = sym c.read.ensures ∙ c.in-Ok.is in

@@ -1,6 +1,5 @@
 use Rattle.image_writer.specs.DirtyLaws.{scan_none, scan_flag, scan_word, scan_vacant, scan_taken, scan_end}
 use mathlib.Core.Path.{sym, ◌∙◌}
-use native.Mathlib.Omega.{arith}
 use Rattle.image_writer.proofs.dirty.scan_table.Goals as goal
 use Rattle.image_writer.proofs.dirty.scan_table.Goals.{then-flag-eq0+else-word-ne0, else-flag-eq0}
 
@@ -9,9 +8,6 @@ loop-slot-init g c = scan_none _ _
 
 pub returns-then-flag-gt1 : goal.returns-then-flag-gt1
 returns-then-flag-gt1 g c = scan_flag c.loop-slot.invariant c.loop-slot-test.true c.if-flag-gt1.true
-
-pub word-requires : goal.word-requires
-word-requires g c = omega arith
 
 pub returns-then-word-ne0 : goal.returns-then-word-ne0
 returns-then-word-ne0 g c = scan_word c.loop-slot.invariant c.loop-slot-test.true c.if-flag-gt1.false c.if-flag-eq0.true (λ e. c.if-word-ne0.true (c.word.ensures ∙ e))
