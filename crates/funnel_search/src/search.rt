@@ -152,10 +152,9 @@ fn walk<E: Stored>(
 {
     let alpha = table.plan.alpha;
     let beta = table.plan.beta;
-    let mut level = 0;
     let mut start = 0;
     let mut bucket = first_bucket(key, counts, alpha, 0);
-    while level < alpha {
+    for level in 0..alpha {
         let count = counts[level as usize];
         if count <= bucket {
             return Walk::Unsettled;
@@ -173,7 +172,6 @@ fn walk<E: Stored>(
             Halt::Nowhere => {
                 bucket = ahead;
                 start += count * beta;
-                level += 1;
             }
         }
     }
@@ -194,24 +192,24 @@ pub fn pass_levels<E: Stored>(
     let key = funnel_key(table.seed, identity);
     let alpha = table.plan.alpha;
     let beta = table.plan.beta;
-    let mut level = 0;
     let mut start = 0;
     let mut bucket = first_bucket(key, counts, alpha, 0);
-    while level < alpha {
+    for level in 0..alpha {
         let count = counts[level as usize];
         if count <= bucket {
             return Stop::Nowhere;
         }
-        // As in `search_levels`, the next level's bucket is drawn before this one is read.
+        // As in `walk`, the next level's bucket is drawn before this one is read, and each kind of stop has an arm.
         let ahead = first_bucket(key, counts, table.plan.alpha, level + 1);
         let from = start + bucket * beta;
-        let stop = pass(words, flags, identity, from, beta);
-        let Stop::Nowhere = stop else {
-            return stop;
-        };
-        bucket = ahead;
-        start += count * beta;
-        level += 1;
+        match pass(words, flags, identity, from, beta) {
+            Stop::Hit { slot } => return Stop::Hit { slot },
+            Stop::Vacant { slot } => return Stop::Vacant { slot },
+            Stop::Nowhere => {
+                bucket = ahead;
+                start += count * beta;
+            }
+        }
     }
     Stop::Nowhere
 }
