@@ -72,12 +72,9 @@ fn run<R: Env + Files + AllocGlobal>(rt: &R, out: &mut Out) {
 
 // How many arguments there are, the name of the program among them.
 fn arg_count<R: Env>(rt: &R) -> usize {
-    for i in 0..usize::MAX {
-        if !is_arg(rt, i) {
-            return i;
-        }
-    }
-    usize::MAX
+    (0..usize::MAX)
+        .find(|i| !is_arg(rt, *i))
+        .unwrap_or(usize::MAX)
 }
 
 fn is_arg<R: Env>(rt: &R, i: usize) -> bool {
@@ -142,7 +139,11 @@ fn examine_file<R: Files + AllocGlobal>(rt: &R, path: &[u8], cap: u64, out: &mut
 // Standard error has the system's reason.
 fn unreadable(alloc: Global, path: &[u8], why: &std::io::Error, out: &mut Out) {
     tell(alloc, path, why);
-    writeln!(out, "misuse      the file \"{}\" cannot be read", Escaped(path));
+    writeln!(
+        out,
+        "misuse      the file \"{}\" cannot be read",
+        Escaped(path)
+    );
     put_usage(out);
 }
 
@@ -164,13 +165,7 @@ fn before_number(text: &str) -> &str {
     }
 }
 
-fn examine_open<F: Read + Drop>(
-    alloc: Global,
-    path: &[u8],
-    mut file: F,
-    cap: u64,
-    out: &mut Out,
-) {
+fn examine_open<F: Read + Drop>(alloc: Global, path: &[u8], mut file: F, cap: u64, out: &mut Out) {
     let mut image = image_buffer();
     examine_read(alloc, path, &mut file, cap, &mut image, out);
 }
@@ -195,7 +190,8 @@ fn examine_read<F: Read>(
     }
 }
 
-// Reads until the buffer is full, the file ends or a read fails, and answers how many bytes are there.
+// Reads until the buffer is full, the file ends or a read fails, and answers how many bytes are there. The library's `read_exact`
+// does not say how many it read before it failed.
 fn read_full<F: Read>(file: &mut F, image: &mut [u8]) -> usize
     ensures { result ≤ length image.new }
 {

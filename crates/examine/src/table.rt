@@ -43,7 +43,10 @@ fn wrong_place(image: &[u8]) -> Option<u64> {
 // The place, and what stands there.
 fn put_malformed(image: &[u8], place: u64, out: &mut Out) {
     let number = refusal::number(Name::Image);
-    write!(out, "refused     IMAGE ({number}): malformed at byte {place}");
+    write!(
+        out,
+        "refused     IMAGE ({number}): malformed at byte {place}"
+    );
     match image.get(place as usize) {
         Some(b) => writeln!(out, ", where the byte is 0x{b:02x}"),
         None => writeln!(out, ", the end of the file"),
@@ -59,7 +62,10 @@ pub fn refuse_length(image: &[u8], out: &mut Out) {
             return;
         }
     }
-    write!(out, "refused     the file is longer than any image of 65536 slots, ");
+    write!(
+        out,
+        "refused     the file is longer than any image of 65536 slots, "
+    );
     writeln!(out, "the most that this program takes");
 }
 
@@ -120,7 +126,10 @@ fn put_refused(image: &[u8], refused: LoadImageRefusal, out: &mut Out) {
         LoadImageRefusal::Load(LoadRefusal::Image { place }) => put_malformed(image, place, out),
         LoadImageRefusal::Load(LoadRefusal::Foreign) => {
             let number = refusal::number(Name::Foreign);
-            write!(out, "refused     FOREIGN ({number}): the image is another table's ");
+            write!(
+                out,
+                "refused     FOREIGN ({number}): the image is another table's "
+            );
             writeln!(out, "than its own n, e and seed say");
         }
     }
@@ -133,7 +142,15 @@ fn loaded(
     words: &mut [u64],
     flags: &mut [u8],
 ) -> Result<Loaded, LoadImageRefusal> {
-    let table = open(given.n, given.e, given.seed, given.word_cap, counts, words, flags)?;
+    let table = open(
+        given.n,
+        given.e,
+        given.seed,
+        given.word_cap,
+        counts,
+        words,
+        flags,
+    )?;
     load_image(table, counts, words, flags, image)
 }
 

@@ -28,7 +28,14 @@ pub fn judge(held: Held) -> Verdict {
 }
 
 fn checked(held: Held, marks: &mut [u8], order: &mut [u64]) -> Verdict {
-    match check(held.table, held.counts, held.words, held.flags, marks, order) {
+    match check(
+        held.table,
+        held.counts,
+        held.words,
+        held.flags,
+        marks,
+        order,
+    ) {
         Ok(_) => Verdict::Accepted,
         Err(CheckRefusal::Gate(gate)) => Verdict::Gate(gate),
         Err(CheckRefusal::Dirty { slot }) => Verdict::Dirty { slot },

@@ -14,9 +14,15 @@ pub struct Given {
 
 // The three fields, where the image starts with them.
 pub fn read_header(image: &[u8], word_cap: u64) -> Option<Given> {
-    let (n, rest) = image.strip_prefix(b"\x01\x08\x00")?.split_first_chunk::<8>()?;
-    let (e, rest) = rest.strip_prefix(b"\x02\x04\x00")?.split_first_chunk::<4>()?;
-    let (seed, _) = rest.strip_prefix(b"\x03\x08\x00")?.split_first_chunk::<8>()?;
+    let (n, rest) = image
+        .strip_prefix(b"\x01\x08\x00")?
+        .split_first_chunk::<8>()?;
+    let (e, rest) = rest
+        .strip_prefix(b"\x02\x04\x00")?
+        .split_first_chunk::<4>()?;
+    let (seed, _) = rest
+        .strip_prefix(b"\x03\x08\x00")?
+        .split_first_chunk::<8>()?;
     Some(Given {
         n: u64::from_le_bytes(*n),
         e: u32::from_le_bytes(*e),

@@ -39,7 +39,10 @@ fn put_fill(count: u64, n: u64, maximum: u64, out: &mut Out) {
         part: count,
         whole: maximum,
     };
-    writeln!(out, "fill        {of_slots} of n, {of_maximum} of the maximum");
+    writeln!(
+        out,
+        "fill        {of_slots} of n, {of_maximum} of the maximum"
+    );
 }
 
 // Members by the part that they are in.

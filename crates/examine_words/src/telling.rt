@@ -59,7 +59,10 @@ pub fn put_verdict(found: Verdict, count: u64, maximum: u64, out: &mut Out) {
         Verdict::Gate(gate) => put_gate(gate, out),
         Verdict::Dirty { slot } => {
             let number = refusal::number(Name::Dirty);
-            writeln!(out, "dirty       DIRTY ({number}): no table has slot {slot} as it is here");
+            writeln!(
+                out,
+                "dirty       DIRTY ({number}): no table has slot {slot} as it is here"
+            );
         }
         Verdict::Disorder(stuck) => put_disorder(stuck, count, maximum, out),
     }
@@ -68,7 +71,10 @@ pub fn put_verdict(found: Verdict, count: u64, maximum: u64, out: &mut Out) {
 fn put_disorder(stuck: Stuck, count: u64, maximum: u64, out: &mut Out) {
     put_placed(stuck.placed, count, maximum, out);
     let slot = stuck.slot;
-    write!(out, "unplaced    slot {slot} is the first that could not be placed; ");
+    write!(
+        out,
+        "unplaced    slot {slot} is the first that could not be placed; "
+    );
     writeln!(out, "it holds identity {}", Identity(stuck.identity));
     put_met(slot, stuck.met, out);
 }
@@ -76,10 +82,16 @@ fn put_disorder(stuck: Stuck, count: u64, maximum: u64, out: &mut Out) {
 // How many could be placed, and whether there are too many.
 fn put_placed(placed: u64, count: u64, maximum: u64, out: &mut Out) {
     let number = refusal::number(Name::Disorder);
-    writeln!(out, "disordered  DISORDER ({number}): no order of insertions makes this table");
+    writeln!(
+        out,
+        "disordered  DISORDER ({number}): no order of insertions makes this table"
+    );
     writeln!(out, "placed      {placed} of {count} members");
     if maximum < count {
-        writeln!(out, "too many    {count} members are more than the maximum of {maximum}");
+        writeln!(
+            out,
+            "too many    {count} members are more than the maximum of {maximum}"
+        );
     }
 }
 
@@ -101,11 +113,17 @@ fn put_met(slot: u64, met: Met, out: &mut Out) {
         }
         Met::Range { words } => {
             let number = refusal::number(Name::Range);
-            write!(out, "is refused: RANGE ({number}), all of {words} words rejected; ");
+            write!(
+                out,
+                "is refused: RANGE ({number}), all of {words} words rejected; "
+            );
             writeln!(out, "a larger word cap may do");
         }
         Met::Copy { slot: other } => {
-            writeln!(out, "finds it at slot {other}: the identity stands in the table twice");
+            writeln!(
+                out,
+                "finds it at slot {other}: the identity stands in the table twice"
+            );
         }
         Met::Reached(reason) => put_reason(reason, out),
         Met::Gate(_) => {}
@@ -120,7 +138,10 @@ fn put_reason(reason: Reason, out: &mut Out) {
         Reason::Unknown => writeln!(out, ", but no order of insertions puts it there"),
         Reason::Blocked { slot } => {
             write!(out, ", but no order of insertions puts it there: ");
-            writeln!(out, "on its way it passes slot {slot}, whose member could not be placed either");
+            writeln!(
+                out,
+                "on its way it passes slot {slot}, whose member could not be placed either"
+            );
         }
     }
 }

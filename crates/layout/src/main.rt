@@ -89,7 +89,11 @@ fn funnel(n: u64, e: u32, out: &mut Out) {
         Err(gate) => put_refusal(gate, out),
         Ok(plan) => {
             write!(out, " {} {} {}", plan.maximum, plan.alpha, plan.beta);
-            write!(out, " {} {}", plan.loglog_ceiling, plan.fallback_bucket_width);
+            write!(
+                out,
+                " {} {}",
+                plan.loglog_ceiling, plan.fallback_bucket_width
+            );
             write!(out, " {} {}", plan.special_len, plan.first_bucket_count);
         }
     }

@@ -1,4 +1,5 @@
 // Operations of a run: iID, qID or sID, oSLOT=ID, cLEVEL=COUNT, lCOUNT.
+ghost use Rattle.std.specs.Prelude.{◌≡◌, ◌++◌, ◌∷◌, IfSome};
 ghost use Rattle.std.specs.Iterator.{at_most};
 ghost use Rattle.script.specs.Operations.{operations_left};
 
@@ -127,7 +128,9 @@ fn edit_of(letter: u8, rest: &[u8], kind: Kind, n: u64) -> Option<Edit> {
 }
 
 // A field around the first byte of a kind, or none.
-pub fn split_at_byte(field: &[u8], b: u8) -> Option<(&[u8], &[u8])> {
+pub fn split_at_byte(field: &[u8], b: u8) -> Option<(&[u8], &[u8])>
+    ensures { IfSome result (λ parts. field.now ≡ parts.0.now ++ b ∷ parts.1.now) }
+{
     let at = field.iter().position(|x| *x == b)?;
     Some((&field[..at], &field[at + 1..]))
 }

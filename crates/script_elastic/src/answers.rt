@@ -18,7 +18,11 @@ impl Display for Done {
             Done::Inserted(insertion) => {
                 let location = insertion.location;
                 write!(f, "I {} {}", Numbered(insertion.case), location.level)?;
-                write!(f, " {} {}", location.slot_in_level.0, location.global_slot.0)?;
+                write!(
+                    f,
+                    " {} {}",
+                    location.slot_in_level.0, location.global_slot.0
+                )?;
                 write!(f, " {} {}", insertion.paper_probe.0, insertion.phi)
             }
             Done::Found(found) => {

@@ -86,7 +86,15 @@ fn in_buffers(asked: Asked, out: &mut Out) {
 fn opened(asked: Asked, words: &mut [u64], flags: &mut [u8], out: &mut Out) {
     let setting = asked.setting;
     let mut counts = [0; 32];
-    match open(setting.n, setting.e, setting.seed, setting.limits, &mut counts, words, flags) {
+    match open(
+        setting.n,
+        setting.e,
+        setting.seed,
+        setting.limits,
+        &mut counts,
+        words,
+        flags,
+    ) {
         Ok(st) => run(
             asked,
             Held {

@@ -26,7 +26,14 @@ pub fn run(table: &Held, out: &mut Out) {
 fn audited(table: &Held, marks: &mut [u8], order: &mut [u64], out: &mut Out) {
     marks.fill(MARK);
     order.fill(ONES);
-    let answer = check(table.table, table.counts, table.words, table.flags, marks, order);
+    let answer = check(
+        table.table,
+        table.counts,
+        table.words,
+        table.flags,
+        marks,
+        order,
+    );
     match answer {
         Ok(placed) => write!(out, "OK {placed}"),
         Err(refused) => write!(out, "{}", refusal_of(refused)),

@@ -30,7 +30,15 @@ fn in_buffers(asked: Asked, out: &mut Out) {
 fn opened(asked: Asked, words: &mut [u64], flags: &mut [u8], out: &mut Out) {
     let opening = asked.opening;
     let mut counts = [0; 118];
-    match open(opening.n, opening.e, opening.seed, opening.cap, &mut counts, words, flags) {
+    match open(
+        opening.n,
+        opening.e,
+        opening.seed,
+        opening.cap,
+        &mut counts,
+        words,
+        flags,
+    ) {
         Ok(table) => {
             let mut held = Held {
                 table,

@@ -17,7 +17,11 @@ pub fn run(image: &[u8], table: &mut Held, out: &mut Out) {
     table.flags.fill(1);
     match loaded(image, table) {
         Ok(loaded) => {
-            write!(out, "OK {} {} {}", loaded.label_at, loaded.label_len, loaded.table.count);
+            write!(
+                out,
+                "OK {} {} {}",
+                loaded.label_at, loaded.label_len, loaded.table.count
+            );
             table.put_digest(out);
         }
         Err(refused) => {
@@ -35,7 +39,13 @@ fn before(slot: usize) -> u64 {
 fn loaded(field: &[u8], table: &mut Held) -> Result<Loaded, LoadImageRefusal> {
     let mut image = image_buffer();
     let k = spell(field, &mut image);
-    load_image(table.table, table.counts, table.words, table.flags, &image[..k])
+    load_image(
+        table.table,
+        table.counts,
+        table.words,
+        table.flags,
+        &image[..k],
+    )
 }
 
 fn refusal_of(refused: LoadImageRefusal) -> Refusal {

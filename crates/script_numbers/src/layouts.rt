@@ -1,4 +1,5 @@
 // EL and FL: the layouts.
+use crate::probes::{arguments, of_32_bits};
 use geometry::elastic::elastic_plan;
 use geometry::funnel::FunnelPlan;
 use geometry_funnel::plan::funnel_plan;
@@ -10,11 +11,8 @@ use text::out::Out;
 
 // n and e.
 fn sizes_of(fields: Fields) -> Result<(u64, u32), Refusal> {
-    let [n, e] = fields.just_numbers::<2>().ok_or(Refusal::Unknown)?;
-    match u32::try_from(e) {
-        Ok(e) => Ok((n, e)),
-        Err(_) => Err(Refusal::Unknown),
-    }
+    let [n, e] = arguments::<2>(fields)?;
+    Ok((n, of_32_bits(e)?))
 }
 
 // EL n e
@@ -39,7 +37,12 @@ struct ElasticLayout {
 impl Display for ElasticLayout {
     fn fmt<W: fmt::Write>(&self, f: &mut fmt::Formatter<W>) -> fmt::Result {
         write!(f, "{} {}", self.maximum, self.levels)?;
-        for (length, quota) in self.lengths.iter().zip(&self.quotas).take(self.levels as usize) {
+        for (length, quota) in self
+            .lengths
+            .iter()
+            .zip(&self.quotas)
+            .take(self.levels as usize)
+        {
             write!(f, " {length}:{quota}")?;
         }
         Ok(())
@@ -70,7 +73,11 @@ impl Display for FunnelLayout {
     fn fmt<W: fmt::Write>(&self, f: &mut fmt::Formatter<W>) -> fmt::Result {
         let plan = self.plan;
         write!(f, "{} {} {}", plan.maximum, plan.alpha, plan.beta)?;
-        write!(f, " {} {} {}", plan.loglog_ceiling, plan.fallback_bucket_width, plan.special_len)?;
+        write!(
+            f,
+            " {} {} {}",
+            plan.loglog_ceiling, plan.fallback_bucket_width, plan.special_len
+        )?;
         for count in self.counts.iter().take(plan.alpha as usize) {
             write!(f, " {count}")?;
         }

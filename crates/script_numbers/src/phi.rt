@@ -1,4 +1,5 @@
 // PHI PHB PHINV: positions and coordinates.
+use crate::probes::of_32_bits;
 use elastic_probe::phi::{Coordinate, PhiRefusal, phi, phi_bounded, phi_inverse};
 use refusal::Name;
 use script::print::{Numbers, Refusal};
@@ -34,10 +35,7 @@ pub fn coordinates(fields: Fields) -> Result<Numbers, Refusal> {
 
 // PHB i j
 pub fn bounded(i: u64, j: u64) -> Result<Numbers, Refusal> {
-    let Ok(i) = u32::try_from(i) else {
-        return Err(Refusal::Unknown);
-    };
-    match phi_bounded(i, j) {
+    match phi_bounded(of_32_bits(i)?, j) {
         Ok(p) => Ok(Numbers::from(p)),
         Err(refused) => Err(refusal_of(refused)),
     }

@@ -82,14 +82,17 @@ fn draw(word: &[u8], fields: Fields) -> Result<Numbers, Refusal> {
 }
 
 // The fields as just so many numbers.
-fn arguments<const N: usize>(fields: Fields) -> Result<[u64; N], Refusal> {
+pub fn arguments<const N: usize>(fields: Fields) -> Result<[u64; N], Refusal> {
     fields.just_numbers::<N>().ok_or(Refusal::Unknown)
 }
 
+// An argument of 32 bits.
+pub fn of_32_bits(x: u64) -> Result<u32, Refusal> {
+    u32::try_from(x).map_err(|_| Refusal::Unknown)
+}
+
 fn budgeted(free: u64, level: u64, e: u64, c: u64) -> Result<Numbers, Refusal> {
-    if 4294967295 < e {
-        return Err(Refusal::Unknown);
-    }
+    of_32_bits(e)?;
     match budget(free, level, e, c) {
         Ok(probes) => Ok(Numbers::from(probes)),
         Err(refused) => Err(Refusal::Valued(Name::Budget, refused.reason())),

@@ -1,5 +1,6 @@
 // SN and MS: the smallest funnel table, and the lower bound on layouts.
 use crate::layouts::FunnelLayout;
+use crate::probes::{arguments, of_32_bits};
 use geometry_smallest::minimum::funnel_minimum_slots;
 use geometry_smallest::smallest::{SmallestRefusal, smallest_funnel};
 use refusal::Name;
@@ -28,12 +29,9 @@ pub fn command(fields: Fields, out: &mut Out) {
 }
 
 fn smallest_of(fields: Fields) -> Result<Smallest, Refusal> {
-    let [count, e, first, last] = fields.just_numbers::<4>().ok_or(Refusal::Unknown)?;
-    let Ok(e) = u32::try_from(e) else {
-        return Err(Refusal::Unknown);
-    };
+    let [count, e, first, last] = arguments::<4>(fields)?;
     let mut counts = [0; 118];
-    match smallest_funnel(count, e, first, last, &mut counts) {
+    match smallest_funnel(count, of_32_bits(e)?, first, last, &mut counts) {
         Ok(found) => Ok(Smallest {
             n: found.n,
             layout: FunnelLayout {
@@ -48,10 +46,7 @@ fn smallest_of(fields: Fields) -> Result<Smallest, Refusal> {
 
 // MS e from
 pub fn minimum(e: u64, from: u64) -> Result<Numbers, Refusal> {
-    let Ok(e) = u32::try_from(e) else {
-        return Err(Refusal::Unknown);
-    };
-    funnel_minimum_slots(e, from)
+    funnel_minimum_slots(of_32_bits(e)?, from)
         .map(Numbers::from)
         .ok_or(Refusal::Named(Name::None))
 }

@@ -62,6 +62,7 @@ impl<'a> Lines<'a> {
         ensures { Leaves part.now self.old.bytes.now self.old.length self.new.bytes.now self.new.length }
     {
         let mut from = 0;
+        // No `for`: how far a turn goes is known behind it.
         while from < part.len() {
             let got = gather(part, from, self.bytes, self.length);
             self.length = got.length;

@@ -48,13 +48,6 @@ impl Out {
         }
     }
 
-    // The first `most` numbers of a row, each behind a space.
-    pub fn row(&mut self, most: u64, row: &[u64]) {
-        for x in row.iter().take(most as usize) {
-            write!(self, " {x}");
-        }
-    }
-
     // The first `most` numbers of a row, joined by commas.
     pub fn joined(&mut self, most: u64, row: &[u64]) {
         for (i, x) in row.iter().take(most as usize).enumerate() {
