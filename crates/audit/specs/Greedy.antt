@@ -1,20 +1,20 @@
 -- The order in which the check takes the members of an image: the smallest slot that is ready, again and again. Assumes nothing.
-use Rattle.std.specs.Prelude.{Bool, false, List, ℕ, zero, suc, ◌+◌, get_or, set, eqb}
+use Rattle.std.specs.Prelude.{Bool, false, List, ℕ, zero, suc, ◌+◌, get_or, set, eqb, Option, Some, None, Ok, Err}
 use Rattle.words.specs.Pick.{pick}
 use Rattle.funnel.specs.declared.table.FunnelTable.{FunnelTable}
-use Rattle.funnel.specs.declared.table.Insertion.{Insertion}
-use Rattle.funnel.specs.declared.table.Insertion.TheVariants as insertion
 use Rattle.funnel.specs.declared.table.Search.{Search}
 use Rattle.funnel.specs.declared.table.Search.TheVariants as search
 use Rattle.funnel.specs.Path.{slot_of}
-use Rattle.funnel.specs.Insert.{with_count, insert_of}
-use Rattle.audit.specs.declared.slots.First.{First}
-use Rattle.audit.specs.declared.slots.First.TheVariants.{At, Nothing}
+use Rattle.funnel.specs.Insert.{Insertion, with_count, insert_of}
+
+-- a slot, where there is one
+abbrev pub First : Type 0
+First = Option ℕ
 
 -- the smallest of k slots from one on that passes a test
 unfoldable pub first_from : (ℕ → Bool) → (slot k : ℕ) → First
-first_from test slot zero = Nothing
-first_from test slot (suc k) = pick (test slot) (At slot) (first_from test (suc slot) k)
+first_from test slot zero = None
+first_from test slot (suc k) = pick (test slot) (Some slot) (first_from test (suc slot) k)
 
 -- an "unplaced occupied slot": its flag is set and its mark is not
 unfoldable pub unplaced : (flags marks : List ℕ) → ℕ → Bool
@@ -22,11 +22,8 @@ unplaced flags marks slot = pick (eqb (get_or flags slot 0) 0) false (eqb (get_o
 
 -- "answered as inserted at that very slot"
 abbrev pub inserted_at : ℕ → Insertion → Bool
-inserted_at slot (insertion.Inserted probes place) = eqb (slot_of place) slot
-inserted_at slot (insertion.Range refusal) = false
-inserted_at slot (insertion.Duplicate probes place) = false
-inserted_at slot (insertion.Exhausted probes) = false
-inserted_at slot (insertion.Full probes) = false
+inserted_at slot (Ok put) = eqb (slot_of put.place) slot
+inserted_at slot (Err refusal) = false
 
 -- the answer to an insertion into the placed part: this is a table with the image's words, the marks for flags, and the number
 -- placed for its count ("the placed part's counts are those of its own slots")
@@ -55,8 +52,8 @@ abbrev pub taken : (marks order : List ℕ) (placed : ℕ) → Taken
 taken marks order placed = record { marks = marks; order = order; placed = placed }
 
 abbrev pub by_first : First → Taken → (ℕ → Taken) → Taken
-by_first Nothing stop next = stop
-by_first (At slot) stop next = next slot
+by_first None stop next = stop
+by_first (Some slot) stop next = next slot
 
 -- "it takes, again and again, the smallest": at most `turns` times, among the first n slots
 unfoldable pub greedy_of : FunnelTable → (counts words flags : List ℕ) (n turns : ℕ) (marks order : List ℕ) (placed : ℕ) → Taken

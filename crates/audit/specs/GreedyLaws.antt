@@ -1,5 +1,5 @@
 -- The greedy order as the two passes over the slots make it: what is left gives what the whole gives. Assumes nothing.
-use Rattle.std.specs.Prelude.{Bool, true, false, List, ◌≡◌, refl, length, get_or, set, replicate, ltb}
+use Rattle.std.specs.Prelude.{Bool, true, false, List, ◌≡◌, refl, length, get_or, set, replicate, ltb, Some, None}
 use Rattle.std.proofs.Math.Path.{sym}
 use Rattle.std.proofs.Common.{◌∙◌, ⊎_elim, eq-or-lt_of_le, length-set, get_or-set_same, ltb-true, ltb-false}
 use Prim.Native.Nat.{ℕ, suc, ◌+◌, ◌-◌, ◌≤◌, ◌<◌}
@@ -8,9 +8,7 @@ use Rattle.funnel.specs.declared.table.FunnelTable.{FunnelTable}
 use Rattle.funnel.specs.Path.{primary_start}
 use Rattle.geometry.specs.Funnel.{IsPlan}
 use Rattle.funnel.specs.Valid.{Valid}
-use Rattle.audit.specs.declared.slots.First.{First}
-use Rattle.audit.specs.declared.slots.First.TheVariants.{At, Nothing}
-use Rattle.audit.specs.Greedy.{first_from, ready, Taken, taken, by_first, greedy_of}
+use Rattle.audit.specs.Greedy.{First, first_from, ready, Taken, taken, by_first, greedy_of}
 use Rattle.audit.specs.Going.{Going}
 use Rattle.audit.specs.FirstLaws.{first_at, first_found, first_none, first_all}
 use Rattle.audit.specs.ReadyLaws.{ready_marked}
@@ -26,12 +24,12 @@ pub first_skip : (test : ℕ → Bool) (start n : ℕ) → start ≤ n → ((t :
 first_skip test start n l quiet = go (first_from test start (n - start)) refl
   where
     go : (r : First) → first_from test start (n - start) ≡ r → first_from test 0 n ≡ r
-    go Nothing e = first_all test 0 n (λ t a b. by t (ltb t start) refl b)
+    go None e = first_all test 0 n (λ t a b. by t (ltb t start) refl b)
       where
         by : (t : ℕ) (x : Bool) → ltb t start ≡ x → t < 0 + n → test t ≡ false
         by t true q b = quiet t (ltb-true _ _ q)
         by t false q b = let c : start ≤ t = ltb-false _ _ q in first_none test start (n - start) e t (omega arith) (omega arith)
-    go (At s) e =
+    go (Some s) e =
         let f = first_found test start (n - start) s e in
         first_at test 0 n s (omega arith) (omega (arith, f.below)) f.holds (λ t a b. by t (ltb t start) refl b f.before)
       where
@@ -58,7 +56,7 @@ module _ {whole : Taken} {table : FunnelTable} {counts words flags marks order :
 
   -- a slot taken that is not among the first i, all of these ordinary
   going_take : (s j : ℕ) → IsPlan table.n table.e table.plan counts → placed < table.n → j ≤ s → j ≤ i → j ≤ primary_start table.plan counts
-      → first_from (ready table counts words flags marks placed) 0 table.n ≡ At s → Going whole table counts words flags (set marks s 1) (set order placed s) (placed + 1) j
+      → first_from (ready table counts words flags marks placed) 0 table.n ≡ Some s → Going whole table counts words flags (set marks s 1) (set order placed s) (placed + 1) j
   going_take s j is room l m p e =
       record {
         left = g.left ∙ greedy_step room ∙ rw e;
@@ -81,7 +79,7 @@ module _ {whole : Taken} {table : FunnelTable} {counts words flags marks order :
   pub going_rise : IsPlan table.n table.e table.plan counts → placed < table.n → i < table.n → i < primary_start table.plan counts → ready table counts words flags marks placed i ≡ true
       → Going whole table counts words flags (set marks i 1) (set order placed i) (placed + 1) (i + 1)
   going_rise is room l p e =
-      let f : first_from (ready table counts words flags marks placed) 0 table.n ≡ At i = first_at _ 0 table.n i (omega arith) (omega arith) e (λ t a b. g.quiet t b) in
+      let f : first_from (ready table counts words flags marks placed) 0 table.n ≡ Some i = first_at _ 0 table.n i (omega arith) (omega arith) e (λ t a b. g.quiet t b) in
       let r = going_take i i is room (omega arith) (omega arith) (omega arith) f in
       let one_set : get_or (set marks i 1) i 0 ≡ 1 = get_or-set_same marks i 1 0 (omega (arith, g.marks_n)) in
       let done = ready_marked table counts words flags (set marks i 1) (placed + 1) i (λ z. omega arith) in
@@ -95,13 +93,13 @@ module _ {whole : Taken} {table : FunnelTable} {counts words flags marks order :
   -- ---- the turns in the special part, which starts at i
 
   module _ (is : IsPlan table.n table.e table.plan counts) (start : i ≡ primary_start table.plan counts) (within : i ≤ table.n) where
-    pub going_special : (s : ℕ) → placed < table.n → first_from (ready table counts words flags marks placed) i (table.n - i) ≡ At s
+    pub going_special : (s : ℕ) → placed < table.n → first_from (ready table counts words flags marks placed) i (table.n - i) ≡ Some s
         → Going whole table counts words flags (set marks s 1) (set order placed s) (placed + 1) i
     going_special s room e =
         let f = first_found _ i (table.n - i) s e in
         going_take s i is room f.least (omega arith) (omega arith) (first_skip _ i table.n within g.quiet ∙ e)
 
-    pub going_stop : placed < table.n → first_from (ready table counts words flags marks placed) i (table.n - i) ≡ Nothing
+    pub going_stop : placed < table.n → first_from (ready table counts words flags marks placed) i (table.n - i) ≡ None
         → taken marks order placed ≡ whole
     going_stop room e = sym (g.left ∙ greedy_step room ∙ rw (first_skip (ready table counts words flags marks placed) i table.n within g.quiet, e))
 

@@ -1,14 +1,12 @@
 -- Laws of the marks of the slots that were taken: the greedy order's marks are these. Assumes nothing.
-use Rattle.std.specs.Prelude.{List, ◌≡◌, length, get_or, set, replicate}
+use Rattle.std.specs.Prelude.{List, ◌≡◌, length, get_or, set, replicate, Some, None}
 use Rattle.std.proofs.Common.{⊎_elim, ap, sym, ◌∙◌, eq-or-lt_of_le, arith, get_or-set_same, get_or-set_other}
 use Rattle.std.proofs.Math.Path.{refl}
 use Prim.Native.Nat.{ℕ, zero, suc, ◌+◌, ◌≤◌, ◌<◌}
 use Rattle.std.proofs.Math.ListN.{length-set}
 use Rattle.std.proofs.lemmas.List.{length-replicate}
 use Rattle.funnel.specs.declared.table.FunnelTable.{FunnelTable}
-use Rattle.audit.specs.declared.slots.First.{First}
-use Rattle.audit.specs.declared.slots.First.TheVariants.{At, Nothing}
-use Rattle.audit.specs.Greedy.{first_from, ready, Taken, taken, by_first, greedy_of}
+use Rattle.audit.specs.Greedy.{First, first_from, ready, Taken, taken, by_first, greedy_of}
 use Rattle.audit.specs.FirstLaws.{first_found}
 use Rattle.audit.specs.Waits.{Ended}
 use Rattle.audit.specs.Marked.{marks_of, Listed}
@@ -56,8 +54,8 @@ module _ (table : FunnelTable) (counts words flags : List ℕ) (n : ℕ) where
       go : (r : First) → first_from (ready table counts words flags marks placed) 0 n ≡ r
           → ((s : ℕ) → Listed n (taken (set marks s 1) (set order placed s) (placed + 1)) → Listed n (greedy_of table counts words flags n turns (set marks s 1) (set order placed s) (placed + 1)))
           → Listed n (by_first r (taken marks order placed) (λ s. greedy_of table counts words flags n turns (set marks s 1) (set order placed s) (placed + 1)))
-      go Nothing e ih = t
-      go (At s) e ih = let f = first_found _ 0 n s e in ih s (listed_more n marks order placed s (omega (arith, f.below)) (omega arith) t)
+      go None e ih = t
+      go (Some s) e ih = let f = first_found _ 0 n s e in ih s (listed_more n marks order placed s (omega (arith, f.below)) (omega arith) t)
 
   -- from marks that were cleared
   pub listed_whole : (marks order : List ℕ) (w : Taken) → marks ≡ replicate n 0 → length order ≡ n → greedy_of table counts words flags n n marks order 0 ≡ w → Listed n w

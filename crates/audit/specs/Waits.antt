@@ -1,6 +1,6 @@
 -- The turns in the special part: which special slots wait on which, and how far the greedy order is while the ordinary marks hold the links
 -- and the queue of those still to be looked at. Special slots go by their number from the start of the part. Assumes nothing.
-use Rattle.std.specs.Prelude.{Bool, true, false, List, ◌⊎◌, ◌≡◌, ℕ, ◌+◌, ◌≤◌, ◌<◌, length, get_or, eqb}
+use Rattle.std.specs.Prelude.{Bool, true, false, List, ◌⊎◌, ◌≡◌, ℕ, ◌+◌, ◌≤◌, ◌<◌, length, get_or, eqb, Some, None}
 use Rattle.words.specs.Pick.{pick}
 use Rattle.funnel.specs.declared.table.FunnelTable.{FunnelTable}
 use Rattle.funnel.specs.declared.table.Search.{Search}
@@ -9,9 +9,7 @@ use Rattle.funnel.specs.Path.{slot_of}
 use Rattle.funnel.specs.Search.{search_of}
 use Rattle.waiting.specs.Links.{candidate, Fits, Beyond}
 use Rattle.waiting.specs.Waiting.{Waiting}
-use Rattle.audit.specs.declared.slots.First.{First}
-use Rattle.audit.specs.declared.slots.First.TheVariants.{At, Nothing}
-use Rattle.audit.specs.Greedy.{Taken, vacant_at}
+use Rattle.audit.specs.Greedy.{First, Taken, vacant_at}
 use Rattle.audit.specs.Going.{Going}
 use Rattle.audit.specs.Special.{special_path, live}
 
@@ -21,10 +19,10 @@ special_end table words marks start slot = search_of words marks (get_or words s
 
 -- the slot at which a search ended vacant
 abbrev pub vacancy_of : Search → First
-vacancy_of (search.Hit probes place) = Nothing
-vacancy_of (search.Vacant probes place) = At (slot_of place)
-vacancy_of (search.Full probes) = Nothing
-vacancy_of (search.Range refusal) = Nothing
+vacancy_of (search.Hit probes place) = None
+vacancy_of (search.Vacant probes place) = Some (slot_of place)
+vacancy_of (search.Full probes) = None
+vacancy_of (search.Range refusal) = None
 
 -- x waits on u: its search ends vacant at u
 unfoldable pub waits_of : FunnelTable → (words marks : List ℕ) (start x u : ℕ) → Bool
@@ -72,8 +70,8 @@ pub record Choice (table : FunnelTable) (words : List ℕ) (start m placed : ℕ
   pub room : placed < table.plan.maximum
 
 unfoldable pub Chosen : FunnelTable → (words : List ℕ) (start m placed : ℕ) (before after : List ℕ) → First → Type 0
-Chosen table words start m placed before after (At slot) = Choice table words start m placed before after slot
-Chosen table words start m placed before after Nothing = (table.plan.maximum ≤ placed) ⊎ ((x : ℕ) → x < m → candidate after m x ≡ false)
+Chosen table words start m placed before after (Some slot) = Choice table words start m placed before after slot
+Chosen table words start m placed before after None = (table.plan.maximum ≤ placed) ⊎ ((x : ℕ) → x < m → candidate after m x ≡ false)
 
 -- candidates that are not ready were dropped or filed, up to one that is
 pub record Turned (table : FunnelTable) (words : List ℕ) (start m : ℕ) (before after : List ℕ) : Type 0 where

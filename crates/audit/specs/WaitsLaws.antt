@@ -1,6 +1,6 @@
 -- Laws of the turns in the special part: what waits on what holds on, and the smallest candidate that waits on itself is the slot that the
 -- greedy order takes. Assumes nothing.
-use Rattle.std.specs.Prelude.{Bool, List, ◌⊎◌, ◌≡◌, ℕ, ◌+◌, ◌*◌, ◌-◌, ◌≤◌, ◌<◌, length, set, eqb, leb}
+use Rattle.std.specs.Prelude.{Bool, List, ◌⊎◌, ◌≡◌, ℕ, ◌+◌, ◌*◌, ◌-◌, ◌≤◌, ◌<◌, length, set, eqb, leb, Option, Some, None}
 use Rattle.std.proofs.Math.Bool.{true, false}
 use Rattle.std.proofs.Common.{inl, inr, ⊎_elim, sym, ◌∙◌, arith, length-set, get_or-set_same, eq-eqb, ne_eqb, eqb-true, le-leb}
 use Rattle.std.proofs.Math.Path.{refl, ap}
@@ -14,17 +14,13 @@ use Rattle.funnel.specs.declared.table.Search.{Search}
 use Rattle.funnel.specs.declared.table.Search.TheVariants as search
 use Rattle.funnel.specs.Path.{slot_of, primary_start}
 use Rattle.funnel.specs.Search.{search_of}
-use Rattle.queue.specs.declared.scan.Smallest.{Smallest}
-use Rattle.queue.specs.declared.scan.Smallest.TheVariants as queued
 use Rattle.queue.specs.Queue.{holds, Queue, Changed, first_in, Found}
 use Rattle.queue.specs.FirstLaws.{first_found, first_none}
 use Rattle.waiting.specs.Links.{space, candidate, Fits, idle, Filed}
 use Rattle.waiting.specs.LinksLaws.{link_alike, candidate_alike, queue_alike, idle_less, idle_most}
 use Rattle.waiting.specs.Waiting.{Unique, Waiting, Chained, Woken}
 use Rattle.waiting.specs.WaitingLaws.{waiting_quiet, waiting_dropped, waiting_filed, waiting_placed}
-use Rattle.audit.specs.declared.slots.First.{First}
-use Rattle.audit.specs.declared.slots.First.TheVariants.{At, Nothing}
-use Rattle.audit.specs.Greedy.{first_from, ready, Taken, taken, vacant_at}
+use Rattle.audit.specs.Greedy.{First, first_from, ready, Taken, taken, vacant_at}
 use Rattle.audit.specs.FirstLaws.{first_at, first_all}
 use Rattle.audit.specs.GreedyLaws.{going_special, going_stop, going_end}
 use Rattle.audit.specs.Special.{special_path, live, ready_past}
@@ -116,12 +112,12 @@ module _ (table : FunnelTable) {counts : List ℕ} (is : IsPlan table.n table.e 
           go false = refl
 
       pub first_chosen : (c : ℕ) → c < m → candidate bytes m c ≡ true → ((y : ℕ) → y < c → candidate bytes m y ≡ false) → waits_of table words marks start c c ≡ true
-          → placed < table.plan.maximum → first_from (ready table counts words flags marks placed) start m ≡ At (start + c)
+          → placed < table.plan.maximum → first_from (ready table counts words flags marks placed) start m ≡ Some (start + c)
       first_chosen c l e first q h =
           first_at (ready table counts words flags marks placed) start m (start + c) (omega arith) (omega arith) (ready_chosen c l e q h)
           (λ t a b. (let z : start + (t - start) ≡ t = omega arith in rw z at (ready_idle (t - start) (omega arith) (first (t - start) (omega arith)))))
 
-      pub first_unchosen : (table.plan.maximum ≤ placed) ⊎ ((x : ℕ) → x < m → candidate bytes m x ≡ false) → first_from (ready table counts words flags marks placed) start m ≡ Nothing
+      pub first_unchosen : (table.plan.maximum ≤ placed) ⊎ ((x : ℕ) → x < m → candidate bytes m x ≡ false) → first_from (ready table counts words flags marks placed) start m ≡ None
       first_unchosen h =
           first_all (ready table counts words flags marks placed) start m
           (λ t a b. (let z : start + (t - start) ≡ t = omega arith in
@@ -136,10 +132,10 @@ pub record Vacancy (table : FunnelTable) (words marks : List ℕ) (start slot en
 
 module _ (table : FunnelTable) {counts : List ℕ} (is : IsPlan table.n table.e table.plan counts) (words marks : List ℕ) (start slot : ℕ) (at : start ≡ primary_start table.plan counts)
     (r : First) (v : r ≡ vacancy_of (special_end table words marks start slot)) where
-  pub vacancy_at : (end : ℕ) → r ≡ At end → Vacancy table words marks start slot end
+  pub vacancy_at : (end : ℕ) → r ≡ Some end → Vacancy table words marks start slot end
   vacancy_at end e = go (special_end table words marks start slot) refl (sym v ∙ e)
     where
-      go : (x : Search) → special_end table words marks start slot ≡ x → vacancy_of x ≡ At end → Vacancy table words marks start slot end
+      go : (x : Search) → special_end table words marks start slot ≡ x → vacancy_of x ≡ Some end → Vacancy table words marks start slot end
       go (search.Hit k p) q e = let z : ◌≡◌ {A = ℕ} 0 1 = cc in absurd (omega arith)
       go (search.Full k) q e = let z : ◌≡◌ {A = ℕ} 0 1 = cc in absurd (omega arith)
       go (search.Range refusal) q e = let z : ◌≡◌ {A = ℕ} 0 1 = cc in absurd (omega arith)
@@ -148,10 +144,10 @@ module _ (table : FunnelTable) {counts : List ℕ} (is : IsPlan table.n table.e 
           let b = special_vacant table is words marks start (get_or words slot 0) at k p q in
           record { from = omega (arith, b.from); to = omega (arith, b.to); here = rw q (eq-eqb _ _ s) }
 
-  pub vacancy_none : r ≡ Nothing → (u : ℕ) → vacant_at u (special_end table words marks start slot) ≡ true → ⊥
+  pub vacancy_none : r ≡ None → (u : ℕ) → vacant_at u (special_end table words marks start slot) ≡ true → ⊥
   vacancy_none e u h = go (special_end table words marks start slot) (sym v ∙ e) h
     where
-      go : (x : Search) → vacancy_of x ≡ Nothing → vacant_at u x ≡ true → ⊥
+      go : (x : Search) → vacancy_of x ≡ None → vacant_at u x ≡ true → ⊥
       go (search.Hit k p) e h = let z : ◌≡◌ {A = ℕ} 0 1 = cc in omega arith
       go (search.Full k) e h = let z : ◌≡◌ {A = ℕ} 0 1 = cc in omega arith
       go (search.Range refusal) e h = let z : ◌≡◌ {A = ℕ} 0 1 = cc in omega arith
@@ -171,18 +167,18 @@ pub turned_none : (table : FunnelTable) (words : List ℕ) (start m : ℕ) (mark
 turned_none table words start m marks f =
     record { fits = f; beyond = record { same_n = refl; high = λ t h. refl }; kept = λ waits pending same w. w }
 
-pub chosen_full : (table : FunnelTable) (words : List ℕ) (start m placed : ℕ) (before after : List ℕ) → table.plan.maximum ≤ placed → Chosen table words start m placed before after Nothing
+pub chosen_full : (table : FunnelTable) (words : List ℕ) (start m placed : ℕ) (before after : List ℕ) → table.plan.maximum ≤ placed → Chosen table words start m placed before after None
 unfolding Chosen
 chosen_full table words start m placed before after h = inl h
 
-pub chosen_none : (table : FunnelTable) (words : List ℕ) (start m placed : ℕ) (before after : List ℕ) (r : Smallest) → r ≡ first_in (holds after (8 * m)) 0 m → r ≡ queued.Nothing
-    → Chosen table words start m placed before after Nothing
+pub chosen_none : (table : FunnelTable) (words : List ℕ) (start m placed : ℕ) (before after : List ℕ) (r : Option ℕ) → r ≡ first_in (holds after (8 * m)) 0 m → r ≡ None
+    → Chosen table words start m placed before after None
 unfolding Chosen
 chosen_none table words start m placed before after r e q = inr (λ x l. first_none (holds after (8 * m)) 0 m (sym e ∙ q) x (omega arith) (omega arith))
 
 module _ {table : FunnelTable} {counts : List ℕ} (is : IsPlan table.n table.e table.plan counts) {words : List ℕ} {start m : ℕ} (at : start ≡ primary_start table.plan counts)
     (room : Room table.n start m) {before marks : List ℕ} (t : Turned table words start m before marks)
-    {c : ℕ} (s : Smallest) (first : s ≡ first_in (holds marks (8 * m)) 0 m) (is_c : s ≡ queued.At c) where
+    {c : ℕ} (s : Option ℕ) (first : s ≡ first_in (holds marks (8 * m)) 0 m) (is_c : s ≡ Some c) where
   found : Found (holds marks (8 * m)) 0 m c
   found = first_found (holds marks (8 * m)) 0 m c (sym first ∙ is_c)
 
@@ -194,7 +190,7 @@ module _ {table : FunnelTable} {counts : List ℕ} (is : IsPlan table.n table.e 
   as_before = waits_alike table is words start at before marks (λ i l. sym (t.beyond.high i (omega (arith, room.enough))))
 
   module _ (r : First) (v : r ≡ vacancy_of (special_end table words marks start (start + c))) where
-    pub chosen_at : (end placed : ℕ) → r ≡ At end → end ≡ start + c → placed < table.plan.maximum → Chosen table words start m placed before marks (At (start + c))
+    pub chosen_at : (end placed : ℕ) → r ≡ Some end → end ≡ start + c → placed < table.plan.maximum → Chosen table words start m placed before marks (Some (start + c))
     unfolding Chosen waits_of
     chosen_at end placed e q h =
         record {
@@ -207,19 +203,19 @@ module _ {table : FunnelTable} {counts : List ℕ} (is : IsPlan table.n table.e 
           room = h;
         }
 
-    pub end_within : (end : ℕ) → r ≡ At end → (start ≤ end) × (end - start < m)
+    pub end_within : (end : ℕ) → r ≡ Some end → (start ≤ end) × (end - start < m)
     end_within end e =
         let a = vacancy_at table is words marks start (start + c) at r v end e in
         (a.from, omega (arith, a.from, a.to, room.parts))
 
-    it : (end : ℕ) → r ≡ At end → waits_of table words marks start c (end - start) ≡ true
+    it : (end : ℕ) → r ≡ Some end → waits_of table words marks start c (end - start) ≡ true
     unfolding waits_of
     it end e =
         let a = vacancy_at table is words marks start (start + c) at r v end e in
         let z : start + (end - start) ≡ end = omega (arith, a.from) in
         rw z a.here
 
-    final : r ≡ Nothing → (u : ℕ) → waits_of table words marks start c u ≡ true → ⊥
+    final : r ≡ None → (u : ℕ) → waits_of table words marks start c u ≡ true → ⊥
     unfolding waits_of
     final e u q = vacancy_none table is words marks start (start + c) at r v e (start + u) q
 
@@ -232,7 +228,7 @@ module _ {table : FunnelTable} {counts : List ℕ} (is : IsPlan table.n table.e 
 
     module _ {after : List ℕ} where
       -- filed under the slot that it waits on
-      pub turned_filed : (end : ℕ) → r ≡ At end → (end ≡ start + c → ⊥) → Filed marks after m c (end - start) → Turned table words start m before after
+      pub turned_filed : (end : ℕ) → r ≡ Some end → (end ≡ start + c → ⊥) → Filed marks after m c (end - start) → Turned table words start m before after
       turned_filed end e n d =
           record {
             fits = record { queue = d.queue; small = t.fits.small };
@@ -246,7 +242,7 @@ module _ {table : FunnelTable} {counts : List ℕ} (is : IsPlan table.n table.e 
       filed_fewer end d = fewer after d.here d.others
 
       -- one that waits on nothing
-      pub turned_dropped : r ≡ Nothing → Changed false marks after (8 * m) m c → Turned table words start m before after
+      pub turned_dropped : r ≡ None → Changed false marks after (8 * m) m c → Turned table words start m before after
       turned_dropped e d =
           record {
             fits = record { queue = d.queue; small = t.fits.small };
@@ -283,13 +279,13 @@ module _ {whole : Taken} {table : FunnelTable} {counts words flags : List ℕ} {
     left_over : table.n - start ≡ m
     left_over = omega (arith, room.parts)
 
-    pub doing_stop : (r : First) → Chosen table words start m placed marks after r → r ≡ Nothing → placed < table.n → Ended whole order placed
+    pub doing_stop : (r : First) → Chosen table words start m placed marks after r → r ≡ None → placed < table.n → Ended whole order placed
     unfolding Chosen
     doing_stop r ch e h =
         ended (going_stop d.going is at (omega (arith, room.parts)) h
         (rw left_over (first_unchosen table is words start at flags d.base waiting_now placed (rw e at ch))))
 
-    module _ {r : First} {slot : ℕ} (ch : Chosen table words start m placed marks after r) (e : r ≡ At slot) where
+    module _ {r : First} {slot : ℕ} (ch : Chosen table words start m placed marks after r) (e : r ≡ Some slot) where
       pub choice : Choice table words start m placed marks after slot
       unfolding Chosen
       choice = rw e at ch
@@ -314,11 +310,11 @@ module _ {whole : Taken} {table : FunnelTable} {counts words flags : List ℕ} {
           number_is : choice.number ≡ slot - start
           number_is = omega (arith, choice.is_slot)
 
-          first : first_from (ready table counts words flags d.base placed) start m ≡ At slot
+          first : first_from (ready table counts words flags d.base placed) start m ≡ Some slot
           first =
               first_chosen table is words start at flags d.base waiting_now placed choice.number choice.small choice.stands choice.first
               (same choice.number choice.number ∙ choice.itself) choice.room
-              ∙ ap At (sym choice.is_slot)
+              ∙ ap Some (sym choice.is_slot)
 
           n_marks : length d.base ≡ table.n
           n_marks = d.going.marks_n

@@ -11,10 +11,8 @@ pub fn restore<E: Stored>(marks: &mut [u8], order: &[E], placed: u64)
     ensures { marks.new ≡ marks_of (length marks.old) (E.words order.now) placed }
 {
     clear_bytes(marks);
-    let mut k = 0;
-    while k < placed {
+    for k in 0..placed {
         let slot = E::word(order, k);
         marks[slot as usize] = 1;
-        k += 1;
     }
 }

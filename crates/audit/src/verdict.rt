@@ -26,15 +26,11 @@ pub fn judge<E: Stored>(
     requires { Valid table counts.now (E.words words.now) marks.old × (length flags.now ≡ table.n) × (start ≡ primary_start table.plan counts.now) }
     ensures { Judged (live table counts.now (E.words words.now) flags.now marks.old) start table.n marks.old marks.new }
 {
-    let n = table.n;
-    let mut slot = start;
-    while slot < n {
-        let at = slot;
-        slot += 1;
-        if is_live(table, counts, words, flags, marks, at) {
-            marks[at as usize] = 1;
+    for slot in start..table.n {
+        if is_live(table, counts, words, flags, marks, slot) {
+            marks[slot as usize] = 1;
         } else {
-            marks[at as usize] = 0;
+            marks[slot as usize] = 0;
         }
     }
 }
@@ -57,24 +53,8 @@ fn is_live<E: Stored>(
     }
     let identity = E::word(words, slot);
     match find_ordinary(table, counts, words, marks, identity) {
-        Search::Vacant {
-            probes: _,
-            place: _,
-        } => {
-            return false;
-        }
-        Search::Hit {
-            probes: _,
-            place: _,
-        } => {
-            return false;
-        }
-        Search::Full { probes: _ } => {
-            return true;
-        }
-        Search::Range(_) => {
-            return false;
-        }
+        Search::Full { .. } => true,
+        Search::Vacant { .. } | Search::Hit { .. } | Search::Range(_) => false,
     }
 }
 
@@ -84,14 +64,11 @@ pub fn offer(marks: &mut [u8], start: u64, m: u64)
     ensures { Offered start m m marks.old marks.new }
 {
     clear(marks, m);
-    let mut number = 0;
-    while number < m {
-        let x = number;
-        number += 1;
-        let at = (start + x) as usize;
+    for number in 0..m {
+        let at = (start + number) as usize;
         if marks[at] != 0 {
             marks[at] = 0;
-            add(marks, 8 * m, m, x);
+            add(marks, 8 * m, m, number);
         }
     }
 }

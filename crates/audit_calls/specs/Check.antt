@@ -1,5 +1,5 @@
 -- The check of an image: what it answers, and what it leaves in marks and order. Assumes nothing.
-use Rattle.std.specs.Prelude.{List, [], ◌∷◌, ◌≡◌, ℕ, length, replicate}
+use Rattle.std.specs.Prelude.{List, [], ◌∷◌, ◌≡◌, ℕ, length, replicate, Some, None}
 use Rattle.refusal.specs.Table.{name_of, Report, answered, refused}
 use Rattle.refusal.specs.declared.Name.TheVariants as name
 use Rattle.geometry.specs.declared.config.Gated.{Gated}
@@ -10,9 +10,7 @@ use Rattle.funnel.specs.Calls.{gate_then, lengths_then, table_gate}
 use Rattle.funnel.specs.Valid.{Valid}
 use Rattle.audit_calls.specs.declared.check.Checked.{Checked}
 use Rattle.audit_calls.specs.declared.check.Checked.TheVariants as checked
-use Rattle.audit.specs.declared.slots.First.{First}
-use Rattle.audit.specs.declared.slots.First.TheVariants.{At, Nothing}
-use Rattle.audit.specs.Greedy.{first_from, unplaced, Taken, greedy_of}
+use Rattle.audit.specs.Greedy.{First, first_from, unplaced, Taken, greedy_of}
 
 -- what a check leaves
 pub record Ended : Type 0 where
@@ -25,8 +23,8 @@ ended answer marks order = record { answer = answer; marks = marks; order = orde
 
 -- DISORDER: "check stuck: number placed, smallest occupied slot unplaced"
 abbrev pub answer_of : First → (placed : ℕ) → Checked
-answer_of Nothing placed = checked.Accepted placed
-answer_of (At slot) placed = checked.Disorder placed slot
+answer_of None placed = checked.Accepted placed
+answer_of (Some slot) placed = checked.Disorder placed slot
 
 unfoldable pub end_of : (flags : List ℕ) (n : ℕ) → Taken → Ended
 end_of flags n t = ended (answer_of (first_from (unplaced flags t.marks) 0 n) t.placed) t.marks t.order
@@ -38,8 +36,8 @@ take_all table counts words flags order =
 
 -- DIRTY: "smallest such slot"; it leaves marks and order as they are
 abbrev pub unless_dirty : First → (marks order : List ℕ) → Ended → Ended
-unless_dirty (At slot) marks order next = ended (checked.Dirty slot) marks order
-unless_dirty Nothing marks order next = next
+unless_dirty (Some slot) marks order next = ended (checked.Dirty slot) marks order
+unless_dirty None marks order next = next
 
 -- "STATE, then DIRTY, come first": the check past STATE
 unfoldable pub audit_of : FunnelTable → (counts words flags marks order : List ℕ) → Ended

@@ -1,5 +1,5 @@
 -- Laws of the check: its tests, and its endings. Assumes nothing.
-use Rattle.std.specs.Prelude.{Bool, not, List, ℕ, length, replicate}
+use Rattle.std.specs.Prelude.{Bool, not, List, ℕ, length, replicate, Some, None}
 use Rattle.std.proofs.Math.Bool.{true, false}
 use Rattle.std.proofs.Math.Path.{◌≡◌, refl, sym}
 use Rattle.std.proofs.Common.{◌∙◌, arith}
@@ -14,9 +14,7 @@ use Rattle.funnel.specs.declared.table.FunnelTable.{FunnelTable}
 use Rattle.funnel.specs.Calls.{gate_then, lengths_then, table_gate}
 use Rattle.funnel.specs.CallLaws.{lengths_words, lengths_flags, lengths_pass, gate_valid, valid_gate}
 use Rattle.audit_calls.specs.declared.check.Checked.TheVariants as checked
-use Rattle.audit.specs.declared.slots.First.{First}
-use Rattle.audit.specs.declared.slots.First.TheVariants.{At, Nothing}
-use Rattle.audit.specs.Greedy.{first_from, unplaced, taken, greedy_of}
+use Rattle.audit.specs.Greedy.{First, first_from, unplaced, taken, greedy_of}
 use Rattle.funnel.specs.Dirty.{dirty_at}
 use Rattle.audit_calls.specs.Check.{Ended, ended, answer_of, end_of, take_all, audit_of, check_gate, check_of, Lent}
 
@@ -31,11 +29,11 @@ module _ (table : FunnelTable) (counts words flags order : List ℕ) where
   take_ends marks' order' placed f r e u q = rw (← e, ← u, q)
 
   module _ (marks : List ℕ) (f : First) (d : f ≡ first_from (dirty_at words flags) 0 table.n) where
-    pub audit_dirty : (s : ℕ) → f ≡ At s → ended (checked.Dirty s) marks order ≡ audit_of table counts words flags marks order
+    pub audit_dirty : (s : ℕ) → f ≡ Some s → ended (checked.Dirty s) marks order ≡ audit_of table counts words flags marks order
     unfolding audit_of
     audit_dirty s e = rw (← d, e)
 
-    pub audit_clean : f ≡ Nothing → take_all table counts words flags order ≡ audit_of table counts words flags marks order
+    pub audit_clean : f ≡ None → take_all table counts words flags order ≡ audit_of table counts words flags marks order
     unfolding audit_of
     audit_clean e = rw (← d, e)
 

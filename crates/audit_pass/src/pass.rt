@@ -52,13 +52,10 @@ fn take_ordinary<E: Stored>(
     ensures { Early start marks.new × Going (greedy_of table counts.now (E.words words.now) flags.now table.n table.n marks.old (E.words order.old) 0) table counts.now (E.words words.now) flags.now marks.new (E.words order.new) result start }
 {
     let mut placed = 0;
-    let mut slot = 0;
-    while slot < start {
-        let at = slot;
-        slot += 1;
-        if is_ready(table, counts, words, flags, marks, placed, at) {
-            marks[at as usize] = 1;
-            E::put(order, placed, at);
+    for slot in 0..start {
+        if is_ready(table, counts, words, flags, marks, placed, slot) {
+            marks[slot as usize] = 1;
+            E::put(order, placed, slot);
             placed += 1;
         }
     }

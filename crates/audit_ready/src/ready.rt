@@ -38,7 +38,7 @@ pub fn is_ready<E: Stored>(
     let identity = E::word(words, slot);
     match pass_placed(table, counts, words, marks, identity) {
         Stop::Vacant { slot: found } => found == slot,
-        Stop::Hit { slot: _ } => false,
+        Stop::Hit { .. } => false,
         Stop::Nowhere => ends_at(table, counts, words, marks, identity, slot),
     }
 }
@@ -92,12 +92,7 @@ fn ends_at<E: Stored>(
     ensures { result ≡ vacant_at slot (find_of table counts.now (E.words words.now) marks.now identity) }
 {
     match find(table, counts, words, marks, identity) {
-        Search::Vacant { probes: _, place } => slot_of(place) == slot,
-        Search::Hit {
-            probes: _,
-            place: _,
-        } => false,
-        Search::Full { probes: _ } => false,
-        Search::Range(_) => false,
+        Search::Vacant { place, .. } => slot_of(place) == slot,
+        Search::Hit { .. } | Search::Full { .. } | Search::Range(_) => false,
     }
 }

@@ -9,13 +9,11 @@ ghost use Rattle.funnel.specs.Search.{search_of};
 ghost use Rattle.funnel.specs.Valid.{Valid};
 ghost use Rattle.waiting.specs.Links.{Fits};
 
-use audit::slots::First;
 use funnel::table::{FunnelTable, Search, slot_of};
 use funnel_stages::stages::{search_fallback, search_primary};
 use lent::store::Stored;
 use probe::word::funnel_key;
 use queue::keep::{remove, smallest};
-use queue::scan::Smallest;
 use waiting::chain::{file, wake};
 
 // Takes the smallest ready slot of the special part, which starts at `start`, again and again: how many are placed then. The ordinary
@@ -35,21 +33,18 @@ pub fn take_live<E: Stored>(
 {
     let n = table.n;
     let m = table.plan.special_len;
+    // No range: `placed` is the answer too, where no candidate is ready and where no slot is left.
     let mut placed = before;
     while placed < n {
-        match next_live(table, counts, words, marks, placed, start) {
-            First::At { slot } => {
-                let number = slot - start;
-                wake(marks, m, number);
-                marks[slot as usize] = 1;
-                remove(marks, 8 * m, m, number);
-                E::put(order, placed, slot);
-                placed += 1;
-            }
-            First::Nothing => {
-                return placed;
-            }
-        }
+        let Some(slot) = next_live(table, counts, words, marks, placed, start) else {
+            return placed;
+        };
+        let number = slot - start;
+        wake(marks, m, number);
+        marks[slot as usize] = 1;
+        remove(marks, 8 * m, m, number);
+        E::put(order, placed, slot);
+        placed += 1;
     }
     placed
 }
@@ -62,35 +57,27 @@ fn next_live<E: Stored>(
     marks: &mut [u8],
     placed: u64,
     start: u64,
-) -> First
+) -> Option<u64>
     requires { Valid table counts.now (E.words words.now) marks.old × (start ≡ primary_start table.plan counts.now) × Fits marks.old table.plan.special_len }
     ensures { Turned table (E.words words.now) start table.plan.special_len marks.old marks.new × Chosen table (E.words words.now) start table.plan.special_len placed marks.old marks.new result }
 {
     if table.plan.maximum <= placed {
-        return First::Nothing;
+        return None;
     }
     let m = table.plan.special_len;
-    loop {
-        match smallest(marks, 8 * m, m) {
-            Smallest::Nothing => {
-                return First::Nothing;
-            }
-            Smallest::At { number } => {
-                let slot = start + number;
-                match vacancy(table, counts, words, marks, start, slot) {
-                    First::Nothing => {
-                        remove(marks, 8 * m, m, number);
-                    }
-                    First::At { slot: end } => {
-                        if end == slot {
-                            return First::At { slot };
-                        }
-                        file(marks, m, number, end - start);
-                    }
+    while let Some(number) = smallest(marks, 8 * m, m) {
+        let slot = start + number;
+        match vacancy(table, counts, words, marks, start, slot) {
+            None => remove(marks, 8 * m, m, number),
+            Some(end) => {
+                if end == slot {
+                    return Some(slot);
                 }
+                file(marks, m, number, end - start);
             }
         }
     }
+    None
 }
 
 // The slot at which the search of a special slot's identity along the special slots ends vacant.
@@ -101,28 +88,14 @@ fn vacancy<E: Stored>(
     marks: &[u8],
     start: u64,
     slot: u64,
-) -> First
+) -> Option<u64>
     requires { Valid table counts.now (E.words words.now) marks.now × (start ≡ primary_start table.plan counts.now) × (slot < table.n) }
     ensures { result ≡ vacancy_of (special_end table (E.words words.now) marks.now start slot) }
 {
     let identity = E::word(words, slot);
     match find_special(table, counts, words, marks, start, identity) {
-        Search::Vacant { probes: _, place } => {
-            let end = slot_of(place);
-            return First::At { slot: end };
-        }
-        Search::Hit {
-            probes: _,
-            place: _,
-        } => {
-            return First::Nothing;
-        }
-        Search::Full { probes: _ } => {
-            return First::Nothing;
-        }
-        Search::Range(_) => {
-            return First::Nothing;
-        }
+        Search::Vacant { place, .. } => Some(slot_of(place)),
+        Search::Hit { .. } | Search::Full { .. } | Search::Range(_) => None,
     }
 }
 

@@ -1,5 +1,5 @@
 -- The check of the funnel table in which every level is one bucket, where no slot but 0 and 1 is occupied. Assumes nothing.
-use Rattle.std.specs.Prelude.{Bool, true, false, ◌≡◌, set}
+use Rattle.std.specs.Prelude.{Bool, true, false, ◌≡◌, set, Some, None}
 use mathlib.Core.List.{List, ◌∷◌}
 use Rattle.std.proofs.Math.Path.{refl}
 use Rattle.std.proofs.Common.{◌∙◌, arith}
@@ -9,9 +9,7 @@ use Rattle.funnel.specs.declared.table.FunnelTable.{FunnelTable}
 use Rattle.funnel.specs.declared.table.Search.TheVariants as search
 use Rattle.funnel.specs.Dirty.{dirty_at}
 use Rattle.audit_calls.specs.declared.check.Checked.TheVariants as checked
-use Rattle.audit.specs.declared.slots.First.{First}
-use Rattle.audit.specs.declared.slots.First.TheVariants.{At, Nothing}
-use Rattle.audit.specs.Greedy.{first_from, unplaced, ready, taken, greedy_of}
+use Rattle.audit.specs.Greedy.{First, first_from, unplaced, ready, taken, greedy_of}
 use Rattle.audit.specs.FirstLaws.{first_all}
 use Rattle.audit.specs.ReadyLaws.{unplaced_vacant, ready_vacant, ready_marked, ready_by}
 use Rattle.audit_calls.specs.Check.{Lent, ended, answer_of, end_of, take_all, audit_of, check_of}
@@ -24,11 +22,11 @@ use Rattle.cases.specs.OneBucketLaws.{is_plan_lem, find_vacant, find_hit}
 -- ---- the greedy order, turn by turn
 
 module _ (t : FunnelTable) (cs words flags : List ℕ) (n turns : ℕ) (marks order : List ℕ) (placed : ℕ) where
-  greedy_stops : first_from (ready t cs words flags marks placed) 0 n ≡ Nothing → greedy_of t cs words flags n (suc turns) marks order placed ≡ taken marks order placed
+  greedy_stops : first_from (ready t cs words flags marks placed) 0 n ≡ None → greedy_of t cs words flags n (suc turns) marks order placed ≡ taken marks order placed
   unfolding greedy_of
   greedy_stops e = rw e
 
-  greedy_takes : (s : ℕ) → first_from (ready t cs words flags marks placed) 0 n ≡ At s
+  greedy_takes : (s : ℕ) → first_from (ready t cs words flags marks placed) 0 n ≡ Some s
       → greedy_of t cs words flags n (suc turns) marks order placed ≡ greedy_of t cs words flags n turns (set marks s 1) (set order placed s) (placed + 1)
   unfolding greedy_of
   greedy_takes s e = rw e
@@ -36,7 +34,7 @@ module _ (t : FunnelTable) (cs words flags : List ℕ) (n turns : ℕ) (marks or
 -- ---- an image of two slots
 
 -- none of some slots passes, if slots 0 and 1 do not, and none after them
-by_two : (test : ℕ → Bool) → test 0 ≡ false → test 1 ≡ false → ((i : ℕ) → test (suc (suc i)) ≡ false) → (n : ℕ) → first_from test 0 n ≡ Nothing
+by_two : (test : ℕ → Bool) → test 0 ≡ false → test 1 ≡ false → ((i : ℕ) → test (suc (suc i)) ≡ false) → (n : ℕ) → first_from test 0 n ≡ None
 by_two test a b c n = first_all test 0 n (λ i l h. at i)
   where
     at : (i : ℕ) → test i ≡ false
@@ -67,7 +65,7 @@ module _ (seed cap count : ℕ) (marks order : List ℕ) (given : Given cap coun
       }
 
   -- slots 0 and 1 tell whether the greedy order stops
-  stops : (ms : List ℕ) (placed : ℕ) → Ready ms placed 0 ≡ false → Ready ms placed 1 ≡ false → first_from (Ready ms placed) 0 144 ≡ Nothing
+  stops : (ms : List ℕ) (placed : ℕ) → Ready ms placed 0 ≡ false → Ready ms placed 1 ≡ false → first_from (Ready ms placed) 0 144 ≡ None
   stops ms placed h k = by_two (Ready ms placed) h k (λ i. ready_vacant t counts (two a b) (two x y) ms placed (suc (suc i)) (get_d_zeros 142 i)) 144
 
   -- the check, by where the greedy order ends
@@ -76,7 +74,7 @@ module _ (seed cap count : ℕ) (marks order : List ℕ) (given : Given cap coun
       → check_of t counts (two a b) (two x y) marks order ≡ ended (answer_of r placed) ms os
   unfolding audit_of take_all end_of
   ends h k ms os placed r g u =
-      let c : first_from (dirty_at (two a b) (two x y)) 0 144 ≡ Nothing = by_two (dirty_at (two a b) (two x y)) h k (λ i. clean_vacant (two a b) (two x y) (suc (suc i)) (get_d_zeros 142 i) (get_d_zeros 142 i)) 144 in
+      let c : first_from (dirty_at (two a b) (two x y)) 0 144 ≡ None = by_two (dirty_at (two a b) (two x y)) h k (λ i. clean_vacant (two a b) (two x y) (suc (suc i)) (get_d_zeros 142 i) (get_d_zeros 142 i)) 144 in
       check_audit t counts (two a b) (two x y) marks order lent ∙ rw (c, g, u)
 
 -- ---- the three images
@@ -89,7 +87,7 @@ module _ (seed cap count : ℕ) (marks order : List ℕ) (given : Given cap coun
   pub empty : check_of here counts (two 0 0) (two 0 0) marks order ≡ ended (checked.Accepted 0) (zeros 144) order
   unfolding dirty_at
   empty =
-      ends seed cap count marks order given 0 0 0 0 refl refl (zeros 144) order 0 Nothing
+      ends seed cap count marks order given 0 0 0 0 refl refl (zeros 144) order 0 None
       (greedy_stops here counts (two 0 0) (two 0 0) 144 143 (zeros 144) order 0
       (stops seed cap count marks order given 0 0 0 0 (zeros 144) 0
       (ready_vacant here counts (two 0 0) (two 0 0) (zeros 144) 0 0 refl) (ready_vacant here counts (two 0 0) (two 0 0) (zeros 144) 0 1 refl)))

@@ -52,6 +52,39 @@ module _ (n words flags : ℕ) (later : Gated) where
   unfolding lengths_then
   lengths_pass w f = sym (rw (eq-eqb words n w, eq-eqb flags n f))
 
+-- what the tests of the cap, and those of the lengths, say alone says what they say with later tests
+module _ (cap : ℕ) (r : Gated) (is : r ≡ limits_then cap (Ok tt)) (later : Gated) where
+  limits_later : limits_then cap later ≡ gate_then (limits_then cap (Ok tt)) later
+  unfolding limits_then
+  limits_later = go (eqb cap 0) (ltb 256 cap)
+    where
+      go : (x y : Bool) → refuse_if x gate.Limits (refuse_if y gate.Limits later) ≡ gate_then (refuse_if x gate.Limits (refuse_if y gate.Limits (Ok tt))) later
+      go true y = refl
+      go false true = refl
+      go false false = refl
+
+  pub limits_refused : (g : Gate) → r ≡ Err g → Err g ≡ limits_then cap later
+  limits_refused g h = let f : limits_then cap (Ok tt) ≡ Err g = sym is ∙ h in sym (limits_later ∙ ap (λ (x : Gated). gate_then x later) f)
+
+  pub limits_passed : r ≡ Ok tt → later ≡ limits_then cap later
+  limits_passed h = let f : limits_then cap (Ok tt) ≡ Ok tt = sym is ∙ h in sym (limits_later ∙ ap (λ (x : Gated). gate_then x later) f)
+
+module _ (n words flags : ℕ) (r : Gated) (is : r ≡ lengths_then n words flags (Ok tt)) (later : Gated) where
+  lengths_later : lengths_then n words flags later ≡ gate_then (lengths_then n words flags (Ok tt)) later
+  unfolding lengths_then
+  lengths_later = go (eqb words n) (eqb flags n)
+    where
+      go : (x y : Bool) → refuse_if (not x) gate.State (refuse_if (not y) gate.State later) ≡ gate_then (refuse_if (not x) gate.State (refuse_if (not y) gate.State (Ok tt))) later
+      go false y = refl
+      go true false = refl
+      go true true = refl
+
+  pub lengths_refused : (g : Gate) → r ≡ Err g → Err g ≡ lengths_then n words flags later
+  lengths_refused g h = let f : lengths_then n words flags (Ok tt) ≡ Err g = sym is ∙ h in sym (lengths_later ∙ ap (λ (x : Gated). gate_then x later) f)
+
+  pub lengths_passed : r ≡ Ok tt → later ≡ lengths_then n words flags later
+  lengths_passed h = let f : lengths_then n words flags (Ok tt) ≡ Ok tt = sym is ∙ h in sym (lengths_later ∙ ap (λ (x : Gated). gate_then x later) f)
+
 -- where the later tests refuse by STATE, so do the lengths and they together
 pub lengths_state : (n words flags : ℕ) → lengths_then n words flags (Err gate.State) ≡ Err gate.State
 unfolding lengths_then
@@ -107,9 +140,22 @@ module _ (table : FunnelTable) (counts : List ℕ) (words flags : ℕ) where
     passes : funnel_gate table.n table.e ≡ Ok tt
     passes = plan_passes (plan_of_true table.n table.e table.plan counts p)
 
-    pub gate_counted : (later : Gated) → table.n < table.count → later ≡ limits_then table.word_cap (Err gate.State) → later ≡ table_gate table counts words flags
+    -- where the plan is right, n and e have a layout, and the later tests are left
+    pub gate_right : table_gate table counts words flags ≡ limits_then table.word_cap (lengths_then table.n words flags (refuse_if (ltb table.n table.count) gate.State (Ok tt)))
     unfolding table_gate
-    gate_counted later c l = l ∙ sym (rw (passes, p, lt-ltb _ _ c, lengths_state table.n words flags))
+    gate_right = rw (passes, p)
+
+    module _ (limits : Gated) (l : limits ≡ limits_then table.word_cap (Ok tt)) (cap : limits ≡ Ok tt) where
+      pub gate_tested : {later : Gated} → later ≡ lengths_then table.n words flags (refuse_if (ltb table.n table.count) gate.State (Ok tt))
+          → later ≡ table_gate table counts words flags
+      gate_tested e = e ∙ limits_passed table.word_cap limits l _ cap ∙ sym gate_right
+
+      module _ (lengths : Gated) (m : lengths ≡ lengths_then table.n words flags (Ok tt)) (same : lengths ≡ Ok tt) where
+        pub gate_counted : table.n < table.count → Err gate.State ≡ table_gate table counts words flags
+        gate_counted c = gate_tested (rw (lt-ltb _ _ c) (lengths_passed table.n words flags lengths m (Err gate.State) same))
+
+        pub gate_uncounted : table.count ≤ table.n → Ok tt ≡ table_gate table counts words flags
+        gate_uncounted c = gate_tested (rw (le-ltb _ _ c) (lengths_passed table.n words flags lengths m (Ok tt) same))
 
     pub gate_planned : (later lengths : Gated) → table.count ≤ table.n → lengths ≡ lengths_then table.n words flags (Ok tt)
         → later ≡ limits_then table.word_cap lengths → later ≡ table_gate table counts words flags

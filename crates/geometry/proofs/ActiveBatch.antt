@@ -12,9 +12,6 @@ pub record Looking (n e levels maximum count rest before spare left i : ℕ) : T
   pub rest_most : rest ≤ 4294967296
   pub before_most : before ≤ 4294967296
 
-pub looking_start : (n e levels maximum count : ℕ) → n ≤ 4294967296 → Looking n e levels maximum count n 0 maximum count 0
-looking_start n e levels maximum count h = record { same = let z : levels - 0 ≡ levels = omega arith in rw z; within = omega arith; rest_most = h; before_most = omega arith }
-
 module _ (n e levels maximum count rest before spare left i : ℕ) (k : Looking n e levels maximum count rest before spare left i) (h : i < levels) (l q : ℕ)
     (a : l ≡ next_length (levels - i) rest) (b : q ≡ next_quota (levels - i) e before l spare) where
   pub front : cut spare (later_quotas e before (split (levels - i) rest)) ≡ q ∷ cut (spare - q) (later_quotas e l (split (levels - (i + 1)) (rest - l)))

@@ -18,11 +18,6 @@ pub record Filling (n e levels maximum : ℕ) (ls qs : List ℕ) (rest before sp
   pub rest_most : rest ≤ 4294967296
   pub before_most : before ≤ 4294967296
 
-pub filling_start : (n e levels maximum : ℕ) (ls qs : List ℕ) → n ≤ 4294967296 → length ls ≡ 32 → length qs ≡ 32 → Filling n e levels maximum ls qs n 0 maximum 0
-filling_start n e levels maximum ls qs h l q =
-    let z : levels - 0 ≡ levels = omega arith in
-    record { lengths = rw z; quotas = rw z; lengths_size = l; quotas_size = q; within = omega arith; rest_most = h; before_most = omega arith }
-
 -- one entry in a list
 pub one_more : (k i : ℕ) (xs : List ℕ) (x : ℕ) (ys zs whole : List ℕ) → length xs ≡ 32 → i < 32 → zs ≡ x ∷ ys → take i xs ++ zs ≡ whole → take (i + 1) (set xs i x) ++ ys ≡ whole
 one_more k i xs x ys zs whole l h e w = rw (add-one i, take-suc-set xs i x (omega arith), append_snoc) (rw e at w)

@@ -1,10 +1,10 @@
 -- Laws of the funnel's gate: when it refuses, that it passes exactly where there is a plan, that the answer is one, and the
 -- truth of the test whether given numbers are the plan. Assumes nothing.
-use Rattle.std.specs.Prelude.{Result, Ok, Err, Bool, not, List, ltb}
+use Rattle.std.specs.Prelude.{Result, Ok, Err, Some, None, Bool, not, List, ltb}
 use Rattle.std.proofs.Math.Bool.{true, false}
 use Rattle.std.proofs.Math.Path.{◌≡◌, refl}
 use Rattle.std.proofs.Common.{sym, ap, ◌∙◌, arith, lt-ltb, le-ltb}
-use Prim.Native.Nat.{ℕ, zero, suc, ◌≤◌, ◌<◌}
+use Prim.Native.Nat.{ℕ, ◌≤◌, ◌<◌}
 use Rattle.refusal.specs.declared.Gate.{Gate}
 use Rattle.refusal.specs.declared.Gate.TheVariants as gate
 use Rattle.geometry.specs.declared.funnel.FunnelPlan.{FunnelPlan}
@@ -98,15 +98,13 @@ planned_unique n e old (Err g) (Err h) a b i j = let k = sym i.0 ∙ j.0 in (let
 
 -- what the code finds on the way
 module _ (n e : ℕ) (h : config_gate n e ≡ Ok tt) (l : 3 ≤ e) where
-  pub special_none : (s : ℕ) → s ≡ 0 → FoundFor n e s → funnel_gate n e ≡ Err gate.Layout
+  pub special_none : FoundFor n e None → funnel_gate n e ≡ Err gate.Layout
   unfolding FoundFor
-  special_none zero z f = gate_layout n e h l (λ y. f y.0.special_len y.2.special.largest.holds)
-  special_none (suc s) z f = absurd (omega arith)
+  special_none f = gate_layout n e h l (λ y. f y.0.special_len y.2.special.largest.holds)
 
-  pub special_some : (s : ℕ) → (s ≡ 0 → ⊥) → FoundFor n e s → Configured n e × (3 ≤ e) × IsLargest (SpecialLength n e) s
+  pub special_some : (s : ℕ) → FoundFor n e (Some s) → Configured n e × (3 ≤ e) × IsLargest (SpecialLength n e) s
   unfolding FoundFor
-  special_some zero z f = absurd (z refl)
-  special_some (suc s) z f = (config_gate_facts n e h, l, f)
+  special_some s f = (config_gate_facts n e h, l, f)
 
 pub special_passes : (n e s : ℕ) → Configured n e → 3 ≤ e → IsLargest (SpecialLength n e) s → funnel_gate n e ≡ Ok tt
 special_passes n e s c h l = gate_pass n e (special_layout n e s c h l)

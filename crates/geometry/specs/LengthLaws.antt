@@ -1,5 +1,5 @@
 -- Laws of the bounds of the special length: what every such length says of n and e. Assumes nothing.
-use Rattle.std.specs.Prelude.{Bool, ◌≡◌, ℕ, zero, suc, ◌+◌, ◌-◌, ◌*◌, ◌/◌, ◌^◌, ◌≤◌, ◌<◌, min, max}
+use Rattle.std.specs.Prelude.{Bool, Option, Some, None, ◌≡◌, ℕ, ◌+◌, ◌-◌, ◌*◌, ◌/◌, ◌^◌, ◌≤◌, ◌<◌, min, max}
 use Rattle.std.proofs.Common.{lt_of_not-le, le-div_iff_mul-le, mul-le-mul, mul-le-mul_left, arith, pow_mono, pow_pos}
 use Rattle.std.proofs.Math.Decide.{dec_le}
 use Rattle.words.specs.Quotient.{ceil_div}
@@ -67,14 +67,14 @@ exponent_most n e s h p = go (dec_le e 27)
         absurd (omega (arith, room l, f.least, g.least))
 
 -- above 27 there is none
-pub found_none : (n e : ℕ) → n ≤ 4294967296 → 27 < e → FoundFor n e 0
+pub found_none : (n e : ℕ) → n ≤ 4294967296 → 27 < e → FoundFor n e None
 unfolding FoundFor
 found_none n e h l = λ z p. omega (arith, exponent_most n e z h p)
 
-pub found_for : (n e lo hi w r : ℕ) → lo ≡ special_least n e → hi ≡ special_most n e → w ≡ 2 * loglog n → Found n lo hi (2 * e) w r → FoundFor n e r
+pub found_for : (n e lo hi w : ℕ) (r : Option ℕ) → lo ≡ special_least n e → hi ≡ special_most n e → w ≡ 2 * loglog n → Found n lo hi (2 * e) w r → FoundFor n e r
 unfolding Found FoundFor
-found_for n e lo hi w zero a b c f = rw (a, b, c) at f
-found_for n e lo hi w (suc r) a b c f = rw (a, b, c) at f
+found_for n e lo hi w None a b c f = rw (a, b, c) at f
+found_for n e lo hi w (Some s) a b c f = rw (a, b, c) at f
 
 -- the test at the bounds of n and e
 pub measured_at : (n e lo hi w s main half : ℕ) (b : Bool) → lo ≡ special_least n e → hi ≡ special_most n e → w ≡ 2 * loglog n → Says b (Measured n lo hi (2 * e) w s main half) → Says b (SpecialMeasured n e s main half)

@@ -1,5 +1,5 @@
 -- The special length of a funnel, as the rule says it. Assumes nothing.
-use Rattle.std.specs.Prelude.{◌≡◌, ℕ, zero, suc, ◌+◌, ◌-◌, ◌*◌, ◌/◌, ◌^◌, ◌≤◌, ◌<◌, min, max}
+use Rattle.std.specs.Prelude.{◌≡◌, Option, Some, None, ℕ, ◌+◌, ◌-◌, ◌*◌, ◌/◌, ◌^◌, ◌≤◌, ◌<◌, min, max}
 use Rattle.std.specs.Int.{◌∣◌}
 use Rattle.words.specs.Log.{ceil_log2}
 use Rattle.words.specs.Quotient.{ceil_div}
@@ -37,10 +37,10 @@ pub record Measured (n lo hi beta w s main half : ℕ) : Type 0 where
 abbrev pub SpecialMeasured : ℕ → ℕ → ℕ → ℕ → ℕ → Type 0
 SpecialMeasured n e s main half = Measured n (special_least n e) (special_most n e) (2 * e) (2 * loglog n) s main half
 
--- what a search answers: the largest, or 0 where there is none
-unfoldable pub Found : (n lo hi beta w r : ℕ) → Type 0
-Found n lo hi beta w zero = (z : ℕ) → Special n lo hi beta w z → ⊥
-Found n lo hi beta w (suc r) = IsLargest (Special n lo hi beta w) (suc r)
+-- what a search answers: the largest, or None where there is none
+unfoldable pub Found : (n lo hi beta w : ℕ) → Option ℕ → Type 0
+Found n lo hi beta w None = (z : ℕ) → Special n lo hi beta w z → ⊥
+Found n lo hi beta w (Some s) = IsLargest (Special n lo hi beta w) s
 
 -- a search from the top: s leaves whole buckets, and nothing larger will do
 pub record Below (n lo hi beta w s : ℕ) : Type 0 where
@@ -49,9 +49,9 @@ pub record Below (n lo hi beta w s : ℕ) : Type 0 where
   pub above : (z : ℕ) → Special n lo hi beta w z → z ≤ s
 
 -- the same at the bounds of n and e
-unfoldable pub FoundFor : (n e r : ℕ) → Type 0
-FoundFor n e zero = (z : ℕ) → SpecialLength n e z → ⊥
-FoundFor n e (suc r) = IsLargest (SpecialLength n e) (suc r)
+unfoldable pub FoundFor : (n e : ℕ) → Option ℕ → Type 0
+FoundFor n e None = (z : ℕ) → SpecialLength n e z → ⊥
+FoundFor n e (Some s) = IsLargest (SpecialLength n e) s
 
 -- the smallest number of buckets whose halves w divides
 unfoldable pub IsPeriod : (h w k : ℕ) → Type 0

@@ -1,5 +1,5 @@
 -- The special length: lengths in one residue class, the search from the top, and the largest by its period. Assumes nothing.
-use Rattle.std.specs.Prelude.{◌≡◌}
+use Rattle.std.specs.Prelude.{Some, None, ◌≡◌}
 use Rattle.std.proofs.Common.{ap, subst, ◌∙◌, le-div_iff_mul-le, zero-mul, mul_left_comm, mul_comm, mod-lt, add-mul}
 use Prim.Native.Nat.{ℕ, zero, suc, ◌+◌, ◌-◌, ◌*◌, ◌/◌, ◌%◌, ◌≤◌, ◌<◌, ◌∣◌}
 use Rattle.std.proofs.Math.Nat.{lt_of_not-le, dvd_refl, dvd-add, dvd-add_iff_right, dvd-sub, dvd-mul_left, dvd-mul_right, mod-eq-zero_of_dvd, dvd_of_mod-eq-zero, div-add-mod, le_of_dvd, mul-le-mul_right, mod-le}
@@ -155,28 +155,27 @@ module _ (n lo hi h w : ℕ) (within : hi ≤ n) (pos : 0 < h) where
         let e : n - (hi - (2 * h - r)) ≡ n - hi - r + 2 * h = omega arith in
         record { to = omega arith; main = rw e (dvd-add (2 * h) rest (dvd_refl (2 * h))); above = λ z q. let f = far z q in omega arith }
 
-    pub top_none : hi < 2 * h - r → Found n lo hi (2 * h) w 0
+    pub top_none : hi < 2 * h - r → Found n lo hi (2 * h) w None
     unfolding Found
     top_none l = λ z q. let f = far z q in omega arith
 
   -- the answers of the search
-  pub found_here : (s : ℕ) → Below n lo hi (2 * h) w s → lo ≤ s → 2 ≤ lo → s / 2 % w ≡ 0 → Found n lo hi (2 * h) w s
+  pub found_here : (s : ℕ) → Below n lo hi (2 * h) w s → lo ≤ s → 2 ≤ lo → s / 2 % w ≡ 0 → Found n lo hi (2 * h) w (Some s)
   unfolding Found
-  found_here zero b l t e = absurd (omega arith)
-  found_here (suc s) b l t e = below_found (suc s) b l t (dvd_of_mod-eq-zero w e)
+  found_here s b l t e = below_found s b l t (dvd_of_mod-eq-zero w e)
 
   not_here : (s : ℕ) → (s / 2 % w ≡ 0 → ⊥) → w ∣ s / 2 → ⊥
   not_here s f d = f (mod-eq-zero_of_dvd w d)
 
-  pub found_low : (s : ℕ) → Below n lo hi (2 * h) w s → s < lo → Found n lo hi (2 * h) w 0
+  pub found_low : (s : ℕ) → Below n lo hi (2 * h) w s → s < lo → Found n lo hi (2 * h) w None
   unfolding Found
   found_low s b l = below_low s b l
 
-  pub found_short : (s : ℕ) → Below n lo hi (2 * h) w s → (s / 2 % w ≡ 0 → ⊥) → s < 2 * h → Found n lo hi (2 * h) w 0
+  pub found_short : (s : ℕ) → Below n lo hi (2 * h) w s → (s / 2 % w ≡ 0 → ⊥) → s < 2 * h → Found n lo hi (2 * h) w None
   unfolding Found
   found_short s b f l = below_short s b (not_here s f) l
 
-  pub found_none : (s tries : ℕ) → 0 < w → w ≤ tries → Below n lo hi (2 * h) w s → s + tries * (2 * h) ≤ hi → Found n lo hi (2 * h) w 0
+  pub found_none : (s tries : ℕ) → 0 < w → w ≤ tries → Below n lo hi (2 * h) w s → s + tries * (2 * h) ≤ hi → Found n lo hi (2 * h) w None
   unfolding Found
   found_none s tries o g b l = let m = mul-le-mul_right (2 * h) g in below_none s o b (omega arith)
 

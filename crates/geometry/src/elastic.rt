@@ -38,10 +38,7 @@ pub fn elastic_plan(
 pub fn is_elastic_plan(n: u64, e: u32, plan: ElasticPlan) -> bool
     ensures { result ≡ is_plan_of n e plan }
 {
-    if plan.levels != ceil_log2(n) {
-        return false;
-    }
-    plan.maximum == max_insertions(n, e)
+    plan.levels == ceil_log2(n) && plan.maximum == max_insertions(n, e)
 }
 
 // The first slot of a level.
@@ -69,8 +66,7 @@ pub fn active_batch(n: u64, e: u32, plan: ElasticPlan, count: u64) -> u64
     let mut before = 0;
     let mut spare = plan.maximum;
     let mut left = count;
-    let mut i = 0;
-    while i < levels {
+    for i in 0..levels {
         let length = next_length(levels, i, rest);
         let quota = next_quota(levels, i, e, before, length, spare);
         if left < quota {
@@ -80,21 +76,19 @@ pub fn active_batch(n: u64, e: u32, plan: ElasticPlan, count: u64) -> u64
         rest -= length;
         spare -= quota;
         before = length;
-        i += 1;
     }
-    i
+    levels
 }
 
 // Both lists, entry by entry.
-fn fill(n: u64, e: u32, levels: u64, maximum: u64, lengths: &mut [u64], quotas: &mut [u64])
-    requires { (n ≤ 4294967296) × (0 < e) × (length lengths.old ≡ 32) × (length quotas.old ≡ 32) }
+fn fill(n: u64, e: u32, levels: u64, maximum: u64, lengths: &mut [u64; 32], quotas: &mut [u64; 32])
+    requires { (n ≤ 4294967296) × (0 < e) }
     ensures { (lengths.new ≡ padded 32 (split levels n)) × (quotas.new ≡ padded 32 (cut maximum (later_quotas e 0 (split levels n)))) }
 {
     let mut rest = n;
     let mut before = 0;
     let mut spare = maximum;
-    let mut i = 0;
-    while i < 32 {
+    for i in 0..32 {
         let length = next_length(levels, i, rest);
         let quota = next_quota(levels, i, e, before, length, spare);
         lengths[i as usize] = length;
@@ -102,7 +96,6 @@ fn fill(n: u64, e: u32, levels: u64, maximum: u64, lengths: &mut [u64], quotas: 
         rest -= length;
         spare -= quota;
         before = length;
-        i += 1;
     }
 }
 
@@ -136,5 +129,5 @@ fn next_quota(levels: u64, i: u64, e: u32, before: u64, new: u64, spare: u64) ->
     }
     let reserve = floor_div_pow2(before, e as u64 + 1);
     let quota = before - reserve - ceil_three_quarters(before) + ceil_three_quarters(new);
-    if quota < spare { quota } else { spare }
+    quota.min(spare)
 }

@@ -15,13 +15,7 @@ pub fn plan_counts_hold(t: u64, levels: usize, first: u64, counts: &[u64; 118]) 
     requires { (0 < levels) × (levels ≤ 118) }
     ensures { Says result (PlanCounts t levels first counts.now) }
 {
-    if counts[0] != first {
-        return false;
-    }
-    if zero_from(counts, levels) {
-        return counts_hold(t, levels, counts);
-    }
-    false
+    counts[0] == first && zero_from(counts, levels) && counts_hold(t, levels, counts)
 }
 
 // Whether the entries from one on are 0. It reads them all, so that the compiler reads several at once.
@@ -30,15 +24,10 @@ fn zero_from(counts: &[u64], from: usize) -> bool
     ensures { Says result (drop from counts.now ≡ replicate (length counts.now - from) 0) }
 {
     let mut others = 0;
-    let mut i = from;
-    while i < counts.len() {
-        others = others | counts[i];
-        i += 1;
+    for count in &counts[from..] {
+        others |= *count;
     }
-    if others == 0 {
-        return true;
-    }
-    false
+    others == 0
 }
 
 // Whether the counts in front are those of t buckets over the levels.
@@ -46,11 +35,7 @@ fn counts_hold(t: u64, levels: usize, counts: &[u64]) -> bool
     requires { (0 < levels) × (levels ≤ length counts.now) }
     ensures { Says result (Counts t levels (take levels counts.now)) }
 {
-    if chain_holds(t, levels, counts) {
-        let first = counts[0];
-        return first_holds(t, levels, first);
-    }
-    false
+    chain_holds(t, levels, counts) && first_holds(t, levels, counts[0])
 }
 
 // Whether the counts are a chain of largest steps, with the sum t. Such a sum lies between the smallest and the largest
@@ -59,30 +44,22 @@ fn chain_holds(t: u64, levels: usize, counts: &[u64]) -> bool
     requires { (0 < levels) × (levels ≤ length counts.now) }
     ensures { Says result (Chain t (take levels counts.now)) }
 {
-    let mut i = levels - 1;
-    let mut y = counts[i];
+    let mut y = counts[levels - 1];
     if t < y {
         return false;
     }
     let mut sum = y;
     let mut lowest = true;
-    while 0 < i {
+    for i in (1..levels).rev() {
         let x = counts[i - 1];
-        if step_holds(x, y, levels - i, sum, lowest) {} else {
-            return false;
-        }
-        if t - sum < x {
+        if !step_holds(x, y, levels - i, sum, lowest) || t - sum < x {
             return false;
         }
         lowest = follows_low(lowest, x, y);
         sum += x;
         y = x;
-        i -= 1;
     }
-    if sum == t {
-        return true;
-    }
-    false
+    sum == t
 }
 
 // Whether y may follow x, and no larger count may, with the sum of the levels from y on. Where these follow the smallest
@@ -91,35 +68,17 @@ fn step_holds(x: u64, y: u64, levels: usize, sum: u64, lowest: bool) -> bool
     requires { lowest ≡ true → sum < low_sum (y + 1) levels }
     ensures { Says result (Step x y levels sum) }
 {
-    if y < minimum_next_bucket_count(x) {
-        return false;
-    }
     let top = maximum_next_bucket_count(x);
-    if top < y {
-        return false;
-    }
-    if lowest {
-        return true;
-    }
-    if top <= y {
-        return true;
-    }
-    if minimum_path_sum_at_most(y + 1, levels, sum) {
-        return false;
-    }
-    true
+    minimum_next_bucket_count(x) <= y
+        && y <= top
+        && (lowest || y == top || !minimum_path_sum_at_most(y + 1, levels, sum))
 }
 
 // Whether the smallest path that goes on from y has x before it.
 fn follows_low(lowest: bool, x: u64, y: u64) -> bool
     ensures { result ≡ true → (lowest ≡ true) × (y ≡ low x) }
 {
-    if lowest {
-        if y == minimum_next_bucket_count(x) {
-            return true;
-        }
-    }
-    false
+    lowest && y == minimum_next_bucket_count(x)
 }
 
 // Whether x is as near to a quarter of t as it can be.
@@ -128,16 +87,8 @@ fn first_holds(t: u64, levels: usize, x: u64) -> bool
 {
     let q = t / 4 + t % 4 / 3;
     if q < x {
-        if maximum_path_sum_at_least(x - 1, levels, t) {
-            return false;
-        }
-        return true;
+        !maximum_path_sum_at_least(x - 1, levels, t)
+    } else {
+        x == q || !minimum_path_sum_at_most(x + 1, levels, t)
     }
-    if x < q {
-        if minimum_path_sum_at_most(x + 1, levels, t) {
-            return false;
-        }
-        return true;
-    }
-    true
 }

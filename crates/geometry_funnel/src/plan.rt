@@ -38,31 +38,17 @@ pub fn funnel_gate(n: u64, e: u32) -> Result<(), Gate>
 pub fn is_funnel_plan(n: u64, e: u32, plan: FunnelPlan, counts: &[u64; 118]) -> bool
     ensures { result ≡ is_plan n e plan counts.now }
 {
-    if n < 2 {
-        return false;
-    }
-    if LARGEST_N < n {
-        return false;
-    }
-    if e < 3 {
-        return false;
-    }
-    if 27 < e {
-        return false;
-    }
-    if numbers_hold(n, e, plan) {} else {
-        return false;
-    }
     let g = plan.loglog_ceiling;
     let s = plan.special_len;
     let t = plan.total_buckets;
     let half = plan.fallback_bucket_count;
-    if special_parts_hold(n, e as u64, g, s, t, half) {} else {
-        return false;
-    }
-    let levels = plan.alpha as usize;
-    let first = plan.first_bucket_count;
-    plan_counts_hold(t, levels, first, counts)
+    2 <= n
+        && n <= LARGEST_N
+        && 3 <= e
+        && e <= 27
+        && numbers_hold(n, e, plan)
+        && special_parts_hold(n, e as u64, g, s, t, half)
+        && plan_counts_hold(t, plan.alpha as usize, plan.first_bucket_count, counts)
 }
 
 // The gate with what it finds on the way: where there is a special length there is a plan.
@@ -73,11 +59,7 @@ fn special_gate(n: u64, e: u32) -> Result<u64, Gate>
     if e < 3 {
         return Err(Gate::Exponent);
     }
-    let s = special_len_of(n, e as u64);
-    if s == 0 {
-        return Err(Gate::Layout);
-    }
-    Ok(s)
+    special_len_of(n, e as u64).ok_or(Gate::Layout)
 }
 
 // The plan with the special length s.
@@ -113,34 +95,13 @@ fn numbers_hold(n: u64, e: u32, plan: FunnelPlan) -> bool
     ensures { Says result (PlanNumbers n e plan) }
 {
     let x = e as u64;
-    let alpha = plan.alpha;
-    if alpha != 4 * x + 10 {
-        return false;
-    }
-    let beta = plan.beta;
-    if beta != 2 * x {
-        return false;
-    }
     let g = plan.loglog_ceiling;
-    if g != base_two_loglog_ceiling(n) {
-        return false;
-    }
-    let width = plan.fallback_bucket_width;
-    if width != 2 * g {
-        return false;
-    }
     let s = plan.special_len;
-    let primary = plan.special_primary_len;
-    if primary != s - s / 2 {
-        return false;
-    }
-    let fallback = plan.special_fallback_len;
-    if fallback != s / 2 {
-        return false;
-    }
-    let maximum = plan.maximum;
-    if maximum != max_insertions(n, e) {
-        return false;
-    }
-    true
+    plan.alpha == 4 * x + 10
+        && plan.beta == 2 * x
+        && g == base_two_loglog_ceiling(n)
+        && plan.fallback_bucket_width == 2 * g
+        && plan.special_primary_len == s - s / 2
+        && plan.special_fallback_len == s / 2
+        && plan.maximum == max_insertions(n, e)
 }

@@ -21,30 +21,14 @@ fn special_holds(n: u64, lo: u64, hi: u64, h: u64, w: u64, s: u64, main: u64, ha
     requires { (hi ≤ n) × (n ≤ 4294967296) × (0 < h) × (h ≤ 27) × (0 < w) × (w ≤ 10) × (2 ≤ lo) }
     ensures { Says result (Measured n lo hi (2 * h) w s main half) }
 {
-    if s < lo {
-        return false;
-    }
-    if hi < s {
-        return false;
-    }
-    if n < main {
-        return false;
-    }
-    if n < half {
-        return false;
-    }
     let beta = 2 * h;
-    if main * beta != n - s {
-        return false;
-    }
-    if half * w != s / 2 {
-        return false;
-    }
-    let past = special_period(h, w) * beta;
-    if hi - s < past {
-        return true;
-    }
-    false
+    lo <= s
+        && s <= hi
+        && main <= n
+        && half <= n
+        && main * beta == n - s
+        && half * w == s / 2
+        && hi - s < special_period(h, w) * beta
 }
 
 // The smallest number of buckets whose halves fill buckets of w: where a multiple of h meets a multiple of w.

@@ -14,13 +14,11 @@ pub fn fill_counts(t: u64, levels: usize, counts: &mut [u64])
     counts[0] = first;
     let mut cur = first;
     let mut rem = t - first;
-    let mut i = 1;
-    while i < levels {
+    for i in 1..levels {
         let next = select_largest_feasible_next(cur, levels - i, rem);
         counts[i] = next;
         rem -= next;
         cur = next;
-        i += 1;
     }
 }
 
@@ -97,15 +95,13 @@ pub fn minimum_path_sum_at_most(x: u64, levels: usize, sum: u64) -> bool
     ensures { result ≡ leb (low_sum x levels) sum }
 {
     let mut cur = x;
-    let mut left = levels;
     let mut rem = sum;
-    while 0 < left {
+    for _ in 0..levels {
         if rem < cur {
             return false;
         }
         rem -= cur;
         cur = minimum_next_bucket_count(cur);
-        left -= 1;
     }
     true
 }
@@ -115,17 +111,15 @@ pub fn maximum_path_sum_at_least(x: u64, levels: usize, sum: u64) -> bool
     ensures { result ≡ leb sum (high_sum x levels) }
 {
     let mut cur = x;
-    let mut left = levels;
     let mut rem = sum;
-    while 0 < left {
+    for _ in 0..levels {
         if rem <= cur {
             return true;
         }
         rem -= cur;
         cur = maximum_next_bucket_count(cur);
-        left -= 1;
     }
-    rem <= 0
+    rem == 0
 }
 
 // The smallest count that may follow x. The form is short from x to the result: walks along a path wait for it.

@@ -5,13 +5,13 @@ ghost use Rattle.geometry.specs.Special.{Below, Found, FoundFor, loglog, special
 
 use words::power::{ceil_div_pow2, ceil_log2, floor_div_pow2};
 
-// The special length of n and e; 0 where there is none. Above 27 there is none: two fallback buckets are too many.
-pub fn special_len_of(n: u64, e: u64) -> u64
+// The special length of n and e. Above 27 there is none: two fallback buckets are too many.
+pub fn special_len_of(n: u64, e: u64) -> Option<u64>
     requires { (n ≤ 4294967296) × (3 ≤ e) }
     ensures { FoundFor n e result }
 {
     if 27 < e {
-        return 0;
+        return None;
     }
     let g = base_two_loglog_ceiling(n);
     let lo = special_least(n, e, g);
@@ -23,8 +23,7 @@ pub fn special_len_of(n: u64, e: u64) -> u64
 pub fn base_two_loglog_ceiling(n: u64) -> u64
     ensures { result ≡ loglog n }
 {
-    let g = ceil_log2(ceil_log2(n));
-    if g == 0 { 1 } else { g }
+    ceil_log2(ceil_log2(n)).max(1)
 }
 
 // The lower bound, by g.
@@ -32,8 +31,7 @@ pub fn special_least(n: u64, e: u64, g: u64) -> u64
     requires { (e ≤ 27) × (g ≤ 5) × (g ≡ loglog n) }
     ensures { result ≡ special_least n e }
 {
-    let part = ceil_div_pow2(n, e + 1);
-    if part < 4 * g { 4 * g } else { part }
+    ceil_div_pow2(n, e + 1).max(4 * g)
 }
 
 // The upper bound.
@@ -43,15 +41,11 @@ pub fn special_most(n: u64, e: u64) -> u64
 {
     let part = floor_div_pow2(3 * n, e + 2);
     let main = (4 * e + 10) * (2 * e);
-    if n < main {
-        return 0;
-    }
-    if part < n - main { part } else { n - main }
+    part.min(n.saturating_sub(main))
 }
 
-// The largest length of the range that leaves whole buckets of 2 * h and whose half is whole buckets of w; 0 where there is
-// none.
-fn largest_special_length(n: u64, lo: u64, hi: u64, h: u64, w: u64) -> u64
+// The largest length of the range that leaves whole buckets of 2 * h and whose half is whole buckets of w.
+fn largest_special_length(n: u64, lo: u64, hi: u64, h: u64, w: u64) -> Option<u64>
     requires { (hi ≤ n) × (0 < h) × (h ≤ 27) × (0 < w) × (2 ≤ lo) }
     ensures { Found n lo hi (2 * h) w result }
 {
@@ -60,33 +54,26 @@ fn largest_special_length(n: u64, lo: u64, hi: u64, h: u64, w: u64) -> u64
     if over == 0 {
         return search_down(n, lo, hi, h, w, hi);
     }
-    if hi < beta - over {
-        return 0;
-    }
-    search_down(n, lo, hi, h, w, hi - (beta - over))
+    let top = hi.checked_sub(beta - over)?;
+    search_down(n, lo, hi, h, w, top)
 }
 
 // The same from the largest length that leaves whole buckets down: w steps pass every residue.
-fn search_down(n: u64, lo: u64, hi: u64, h: u64, w: u64, top: u64) -> u64
+fn search_down(n: u64, lo: u64, hi: u64, h: u64, w: u64, top: u64) -> Option<u64>
     requires bounds { (hi ≤ n) × (0 < h) × (h ≤ 27) × (0 < w) × (2 ≤ lo) }
     requires below { Below n lo hi (2 * h) w top }
     ensures { Found n lo hi (2 * h) w result }
 {
     let beta = 2 * h;
     let mut s = top;
-    let mut tries = 0;
-    while tries < w {
+    for _ in 0..w {
         if s < lo {
-            return 0;
+            return None;
         }
         if s / 2 % w == 0 {
-            return s;
+            return Some(s);
         }
-        if s < beta {
-            return 0;
-        }
-        s -= beta;
-        tries += 1;
+        s = s.checked_sub(beta)?;
     }
-    0
+    None
 }

@@ -1,17 +1,14 @@
 -- The reader's loop: the reading from a cursor on is the reading of the whole. Assumes nothing.
-use Rattle.std.specs.Prelude.{◌≡◌, refl, List, [], ℕ, suc, ◌+◌, ◌*◌, ◌-◌, ◌<◌, ◌≤◌, length}
+use Rattle.std.specs.Prelude.{Ok, Err, Some, None, ◌≡◌, refl, List, [], ℕ, suc, ◌+◌, ◌*◌, ◌-◌, ◌<◌, ◌≤◌, length}
 use Rattle.std.proofs.Math.Path.{ap}
 use Rattle.std.proofs.Common.{◌∙◌, arith}
 use borrow.Author.Tests.{lt-ltb, le-ltb, eq-eqb, ne_eqb}
 use Rattle.image.specs.Format.{entry_size, fields}
 use Rattle.image.specs.Head.{unnamed}
-use Rattle.image.specs.Reading.{low_after, frame_of, floor_after, Seen, seen, told, bad, end_of, field_then, read_from, read_of}
+use Rattle.image.specs.Reading.{low_after, framed, frame_of, floor_after, Seen, seen, told, bad, end_of, field_then, read_from, read_of}
 use Rattle.image.specs.Cursor.{cursor, cursor_of, outline_in, content_of, took_of, outcome_of}
-use Rattle.image.specs.declared.reader.Outcome.TheVariants.{Good}
 use Rattle.image.specs.FrameLaws.{Framing, framing}
 use Rattle.image.specs.CursorLaws.{content_off, content_ok, content_floor, took_told, took_small}
-use Rattle.image.specs.declared.field.Framed.TheVariants.{Wrong, Field}
-use Rattle.image.specs.declared.reader.Content.TheVariants.{Off, Right}
 use Rattle.image.specs.declared.reader.Cursor.{Cursor}
 
 -- a cursor on its way: what was seen, and that the reading from here is the reading of the whole
@@ -40,25 +37,25 @@ module _ {b : List ℕ} {c : Cursor} (a : Along b c) where
   more : a.fuel ≡ suc (a.fuel - 1)
   more = let e = a.enough in let w = a.within in omega arith
 
-  pub along_wrong : (p : ℕ) → frame_of fields b c.low c.at ≡ Wrong p → read_of b ≡ bad p
+  pub along_wrong : (p : ℕ) → frame_of fields b c.low c.at ≡ Err p → read_of b ≡ bad p
   unfolding read_from field_then
-  along_wrong p h = let g : frame_of fields b a.lo a.pos ≡ Wrong p = rw a.same at h in a.left ∙ rw (more, g)
+  along_wrong p h = let g : frame_of fields b a.lo a.pos ≡ Err p = rw a.same at h in a.left ∙ rw (more, g)
 
-  module _ (tag len : ℕ) (h : frame_of fields b c.low c.at ≡ Field tag len) where
-    here : frame_of fields b a.lo a.pos ≡ Field tag len
+  module _ (tag len : ℕ) (h : frame_of fields b c.low c.at ≡ Ok (framed tag len)) where
+    here : frame_of fields b a.lo a.pos ≡ Ok (framed tag len)
     here = rw a.same at h
 
     pub along_framing : Framing fields b c.low c.at tag len
     along_framing = framing fields b c.low c.at tag len h
 
-    pub along_off : content_of b c tag (c.at + 3) len ≡ Off → read_of b ≡ bad c.at
+    pub along_off : content_of b c tag (c.at + 3) len ≡ None → read_of b ≡ bad c.at
     unfolding read_from field_then
     along_off k =
-        let g : content_of b (cursor_of a.saw a.lo a.pos) tag (a.pos + 3) len ≡ Off = rw a.same at k in
+        let g : content_of b (cursor_of a.saw a.lo a.pos) tag (a.pos + 3) len ≡ None = rw a.same at k in
         rw along_at (a.left ∙ rw (more, here, content_off b a.saw a.lo a.pos tag (a.pos + 3) len g))
 
-    module _ (floor : ℕ) (k : content_of b c tag (c.at + 3) len ≡ Right floor) where
-      fine : content_of b (cursor_of a.saw a.lo a.pos) tag (a.pos + 3) len ≡ Right floor
+    module _ (floor : ℕ) (k : content_of b c tag (c.at + 3) len ≡ Some floor) where
+      fine : content_of b (cursor_of a.saw a.lo a.pos) tag (a.pos + 3) len ≡ Some floor
       fine = rw a.same at k
 
       -- field 6
@@ -73,7 +70,7 @@ module _ {b : List ℕ} {c : Cursor} (a : Along b c) where
 
       -- none
       pub along_good : tag ≡ 6 → length b ≤ c.at + 3 + len
-          → Good (outline_in c) ≡ outcome_of (read_of b)
+          → Ok (outline_in c) ≡ outcome_of (read_of b)
       unfolding end_of
       along_good t l = rw (along_last t, le-ltb _ _ l, a.same)
 

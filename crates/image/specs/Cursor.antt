@@ -1,16 +1,12 @@
 -- The reading of an image as numbers alone: what a reader has to carry from field to field. Assumes nothing.
-use Rattle.std.specs.Prelude.{List, ℕ, ◌+◌, ◌/◌, length, eqb}
+use Rattle.std.specs.Prelude.{Option, Some, None, Result, Ok, Err, List, ℕ, ◌+◌, ◌/◌, length, eqb}
 use Rattle.words.specs.Bytes.{num_at}
 use Rattle.words.specs.Pick.{pick}
 use Rattle.image.specs.Format.{Entry, entry_size, fields}
 use Rattle.image.specs.Reading.{low_after, entries_at, rising, floor_after, Seen, told_head, Reading, bad, good}
-use Rattle.image.specs.declared.reader.Content.{Content}
-use Rattle.image.specs.declared.reader.Content.TheVariants.{Off, Right}
 use Rattle.image.specs.declared.reader.Cursor.{Cursor}
 use Rattle.image.specs.declared.head.Head.{Head}
 use Rattle.image.specs.declared.reader.Outline.{Outline}
-use Rattle.image.specs.declared.reader.Outcome.{Outcome}
-use Rattle.image.specs.declared.reader.Outcome.TheVariants.{Bad, Good}
 
 abbrev pub cursor : ℕ → ℕ → Head → ℕ → ℕ → ℕ → ℕ → Cursor
 cursor low at h la ll count floor =
@@ -25,14 +21,14 @@ abbrev pub outline_in : Cursor → Outline
 outline_in c = record { head = c.head; label_at = c.label_at; label_len = c.label_len; count = c.count }
 
 -- whether the slots rise from `floor` on, and the next floor
-unfoldable pub rise_of : ℕ → ℕ → List Entry → Content
-rise_of n floor es = pick (rising n floor es) (Right (floor_after floor es)) Off
+unfoldable pub rise_of : ℕ → ℕ → List Entry → Option ℕ
+rise_of n floor es = pick (rising n floor es) (Some (floor_after floor es)) None
 
-unfoldable pub content_of : List ℕ → Cursor → ℕ → ℕ → ℕ → Content
+unfoldable pub content_of : List ℕ → Cursor → ℕ → ℕ → ℕ → Option ℕ
 content_of b c tag at len =
     pick (eqb tag 5) (rise_of c.head.n c.floor (entries_at b at (len / entry_size)))
-    (pick (eqb tag 6) (pick (eqb (num_at b at 8) c.count) (Right c.floor) Off)
-    (Right c.floor))
+    (pick (eqb tag 6) (pick (eqb (num_at b at 8) c.count) (Some c.floor) None)
+    (Some c.floor))
 
 -- the cursor past a field whose body stands at `at`
 unfoldable pub took_of : List ℕ → Cursor → ℕ → ℕ → ℕ → ℕ → Cursor
@@ -47,6 +43,6 @@ took_of b c tag at len floor =
 abbrev pub outline_of : Seen → Outline
 outline_of s = record { head = s.head; label_at = s.label_at; label_len = s.label_len; count = length s.entries }
 
-abbrev pub outcome_of : Reading → Outcome
-outcome_of (bad place) = Bad place
-outcome_of (good s) = Good (outline_of s)
+abbrev pub outcome_of : Reading → Result Outline ℕ
+outcome_of (bad place) = Err place
+outcome_of (good s) = Ok (outline_of s)

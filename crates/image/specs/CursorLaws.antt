@@ -1,7 +1,7 @@
 -- What a cursor carries follows what the fields say. Assumes nothing.
 use Rattle.std.proofs.Math.Path.{◌≡◌, refl, sym}
 use Rattle.std.proofs.Common.{ap, ◌∙◌, arith}
-use Rattle.std.specs.Prelude.{Bool, List, [], ◌∷◌, ◌++◌, ℕ, zero, suc, ◌+◌, ◌*◌, ◌/◌, ◌≤◌, length, eqb}
+use Rattle.std.specs.Prelude.{Some, None, Bool, List, [], ◌∷◌, ◌++◌, ℕ, zero, suc, ◌+◌, ◌*◌, ◌/◌, ◌≤◌, length, eqb}
 use Rattle.std.proofs.Math.Bool.{true, false}
 use Rattle.std.proofs.Math.ListN.{length-append}
 use Rattle.words.specs.Bytes.{num_at}
@@ -10,7 +10,6 @@ use Rattle.image.specs.Format.{Entry, entry_size, fields}
 use Rattle.image.specs.Reading.{low_after, entries_at, rising, floor_after, Seen, told, right_content}
 use Rattle.image.specs.Cursor.{cursor_of, rise_of, content_of, took_of}
 use Rattle.image.specs.TestLaws.{cases}
-use Rattle.image.specs.declared.reader.Content.TheVariants.{Off, Right}
 use Rattle.image.specs.declared.reader.Cursor.{Cursor}
 
 -- ---- content
@@ -26,11 +25,11 @@ length_entries b at zero = refl
 length_entries b at (suc k) = ap suc (length_entries b (at + entry_size) k)
 
 module _ (b : List ℕ) (s : Seen) (low at tag p len : ℕ) where
-  pub content_off : content_of b (cursor_of s low at) tag p len ≡ Off → right_content b s tag p len ≡ false
+  pub content_off : content_of b (cursor_of s low at) tag p len ≡ None → right_content b s tag p len ≡ false
   unfolding content_of right_content rise_of
   content_off h = go (eqb tag 5) (eqb tag 6) (rising s.head.n (floor_after 0 s.entries) (entries_at b p (len / entry_size))) (eqb (num_at b p 8) (length s.entries)) h
     where
-      go : (x y u v : Bool) → pick x (pick u (Right (floor_after (floor_after 0 s.entries) (entries_at b p (len / entry_size)))) Off) (pick y (pick v (Right (floor_after 0 s.entries)) Off) (Right (floor_after 0 s.entries))) ≡ Off
+      go : (x y u v : Bool) → pick x (pick u (Some (floor_after (floor_after 0 s.entries) (entries_at b p (len / entry_size)))) None) (pick y (pick v (Some (floor_after 0 s.entries)) None) (Some (floor_after 0 s.entries))) ≡ None
           → pick x u (pick y v true) ≡ false
       go true y false v e = refl
       go true y true v e = let z : ◌≡◌ {A = ℕ} 0 1 = cc in absurd (omega arith)
@@ -38,11 +37,11 @@ module _ (b : List ℕ) (s : Seen) (low at tag p len : ℕ) where
       go false true u true e = let z : ◌≡◌ {A = ℕ} 0 1 = cc in absurd (omega arith)
       go false false u v e = let z : ◌≡◌ {A = ℕ} 0 1 = cc in absurd (omega arith)
 
-  pub content_ok : (floor : ℕ) → content_of b (cursor_of s low at) tag p len ≡ Right floor → right_content b s tag p len ≡ true
+  pub content_ok : (floor : ℕ) → content_of b (cursor_of s low at) tag p len ≡ Some floor → right_content b s tag p len ≡ true
   unfolding content_of right_content rise_of
   content_ok floor h = go (eqb tag 5) (eqb tag 6) (rising s.head.n (floor_after 0 s.entries) (entries_at b p (len / entry_size))) (eqb (num_at b p 8) (length s.entries)) h
     where
-      go : (x y u v : Bool) → pick x (pick u (Right (floor_after (floor_after 0 s.entries) (entries_at b p (len / entry_size)))) Off) (pick y (pick v (Right (floor_after 0 s.entries)) Off) (Right (floor_after 0 s.entries))) ≡ Right floor
+      go : (x y u v : Bool) → pick x (pick u (Some (floor_after (floor_after 0 s.entries) (entries_at b p (len / entry_size)))) None) (pick y (pick v (Some (floor_after 0 s.entries)) None) (Some (floor_after 0 s.entries))) ≡ Some floor
           → pick x u (pick y v true) ≡ true
       go true y true v e = refl
       go true y false v e = let z : ◌≡◌ {A = ℕ} 0 1 = cc in absurd (omega arith)
@@ -51,11 +50,11 @@ module _ (b : List ℕ) (s : Seen) (low at tag p len : ℕ) where
       go false false u v e = refl
 
   -- after entries the floor is that of all the entries
-  pub content_floor : (floor : ℕ) → content_of b (cursor_of s low at) tag p len ≡ Right floor → eqb tag 5 ≡ true → floor ≡ floor_after 0 (s.entries ++ entries_at b p (len / entry_size))
+  pub content_floor : (floor : ℕ) → content_of b (cursor_of s low at) tag p len ≡ Some floor → eqb tag 5 ≡ true → floor ≡ floor_after 0 (s.entries ++ entries_at b p (len / entry_size))
   unfolding content_of rise_of
   content_floor floor h t = go (rising s.head.n (floor_after 0 s.entries) (entries_at b p (len / entry_size))) (rw t at h)
     where
-      go : (u : Bool) → pick u (Right (floor_after (floor_after 0 s.entries) (entries_at b p (len / entry_size)))) Off ≡ Right floor → floor ≡ floor_after 0 (s.entries ++ entries_at b p (len / entry_size))
+      go : (u : Bool) → pick u (Some (floor_after (floor_after 0 s.entries) (entries_at b p (len / entry_size)))) None ≡ Some floor → floor ≡ floor_after 0 (s.entries ++ entries_at b p (len / entry_size))
       go true e = let q : floor_after (floor_after 0 s.entries) (entries_at b p (len / entry_size)) ≡ floor = cc in sym q ∙ sym (floor_append 0 s.entries (entries_at b p (len / entry_size)))
       go false e = let z : ◌≡◌ {A = ℕ} 0 1 = cc in absurd (omega arith)
 

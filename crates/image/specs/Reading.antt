@@ -1,11 +1,10 @@
 -- What an image says, or the place where it is malformed: fields are found by their offset, one after the other. Assumes nothing.
-use Rattle.std.specs.Prelude.{Bool, true, false, not, List, [], ◌∷◌, ◌++◌, ℕ, zero, suc, ◌+◌, ◌/◌, ◌%◌, length, get_or, drop, eqb, ltb, leb}
+use Rattle.std.specs.Prelude.{Result, Ok, Err, Bool, true, false, not, List, [], ◌∷◌, ◌++◌, ℕ, zero, suc, ◌+◌, ◌/◌, ◌%◌, length, get_or, drop, eqb, ltb, leb}
 use Rattle.words.specs.Bytes.{num_at}
 use Rattle.words.specs.Pick.{pick}
 use Rattle.image.specs.Format.{Entry, entry, entry_size, fields, none}
 use Rattle.image.specs.Head.{headed, unnamed}
-use Rattle.image.specs.declared.field.Framed.{Framed}
-use Rattle.image.specs.declared.field.Framed.TheVariants.{Wrong, Field}
+use Rattle.image.specs.declared.field.Field.{Field}
 use Rattle.image.specs.declared.field.Kind.{Kind}
 use Rattle.image.specs.declared.head.Head.{Head}
 
@@ -48,8 +47,16 @@ low_after ks tag len = low_behind (kind_at ks (rank_of ks tag)) (rank_of ks tag)
 
 -- ---- one field
 
+-- a field whose tag, length and body are right
+abbrev pub framed : ℕ → ℕ → Field
+framed tag len = record { tag = tag; len = len }
+
+-- that, or the place that is wrong
+abbrev pub Framed : Type 0
+Framed = Result Field ℕ
+
 abbrev pub wrong_if : Bool → ℕ → Framed → Framed
-wrong_if test place otherwise = pick test (Wrong place) otherwise
+wrong_if test place otherwise = pick test (Err place) otherwise
 
 -- "Within a field the order is: tag, both length bytes present, length, body present, content": the place is the field's offset
 -- for "a wrong tag, length or content", and "the image's length if it ends before or inside a field whose tag is right"
@@ -60,7 +67,7 @@ frame_of ks b low at =
     (wrong_if (ltb (length b) (at + 3)) (length b)
     (wrong_if (not (right_length ks (get_or b at 0) (num_at b (at + 1) 2))) at
     (wrong_if (ltb (length b) (at + 3 + num_at b (at + 1) 2)) (length b)
-    (Field (get_or b at 0) (num_at b (at + 1) 2))))))
+    (Ok (framed (get_or b at 0) (num_at b (at + 1) 2)))))))
 
 -- ---- what the fields say
 
@@ -125,11 +132,11 @@ end_of b s at = pick (ltb at (length b)) (bad at) (good s)
 
 -- a field at `at`, with the reading `more` of what comes after it
 unfoldable pub field_then : List ℕ → Seen → ℕ → Framed → (Seen → ℕ → ℕ → Reading) → Reading
-field_then b s at (Wrong place) more = bad place
-field_then b s at (Field tag len) more =
-    pick (right_content b s tag (at + 3) len)
-    (pick (eqb tag 6) (end_of b s (at + 3 + len))
-    (more (told b s tag (at + 3) len) (low_after fields tag len) (at + 3 + len)))
+field_then b s at (Err place) more = bad place
+field_then b s at (Ok f) more =
+    pick (right_content b s f.tag (at + 3) f.len)
+    (pick (eqb f.tag 6) (end_of b s (at + 3 + f.len))
+    (more (told b s f.tag (at + 3) f.len) (low_after fields f.tag f.len) (at + 3 + f.len)))
     (bad at)
 
 -- fields from `at` on until field 6, at most f of them

@@ -1,5 +1,5 @@
 -- A right image, field by field: each is right, and what is read after it is right. Assumes nothing.
-use Rattle.std.specs.Prelude.{◌≡◌, refl, true, List, ◌++◌, length, eqb, ltb}
+use Rattle.std.specs.Prelude.{Ok, Err, ◌≡◌, refl, true, List, ◌++◌, length, eqb, ltb}
 use Rattle.std.proofs.Common.{ap, sym, ◌∙◌}
 use Prim.Native.Nat.{ℕ, zero, suc, ◌+◌, ◌-◌, ◌/◌, ◌≤◌}
 use native.Mathlib.Omega.{arith}
@@ -8,21 +8,19 @@ use Rattle.words.specs.Pick.{pick}
 use Rattle.image.specs.Format.{entry_size, fields}
 use Rattle.image.specs.FrameLaws.{Framing, framing}
 use Rattle.image.specs.KindLaws.{not_first, low_past}
-use Rattle.image.specs.Reading.{low_after, frame_of, entries_at, Seen, told_head, told, right_content, bad, good, end_of, field_then, read_from}
+use Rattle.image.specs.Reading.{low_after, framed, Framed, frame_of, entries_at, Seen, told_head, told, right_content, bad, good, end_of, field_then, read_from}
 use Rattle.image.specs.TestLaws.{cases}
-use Rattle.image.specs.declared.field.Framed.{Framed}
-use Rattle.image.specs.declared.field.Framed.TheVariants.{Wrong, Field}
 
 pub not_good : {P : Type 0} (p : ℕ) (g : Seen) → bad p ≡ good g → P
 not_good p g h = let z : ◌≡◌ {A = ℕ} 0 1 = cc in absurd (omega arith)
 
 module _ (b : List ℕ) (s g : Seen) (low at : ℕ) where
-  pub good_wrong : {P : Type 0} (f p : ℕ) → read_from b f s low at ≡ good g → frame_of fields b low at ≡ Wrong p → P
+  pub good_wrong : {P : Type 0} (f p : ℕ) → read_from b f s low at ≡ good g → frame_of fields b low at ≡ Err p → P
   unfolding read_from field_then
   good_wrong zero p h w = not_good at g h
   good_wrong (suc f) p h w = not_good p g (rw w at h)
 
-  module _ (tag len : ℕ) (w : frame_of fields b low at ≡ Field tag len) where
+  module _ (tag len : ℕ) (w : frame_of fields b low at ≡ Ok (framed tag len)) where
     pub good_content : (f : ℕ) → read_from b f s low at ≡ good g → right_content b s tag (at + 3) len ≡ true
     unfolding read_from field_then
     good_content zero h = not_good at g h
@@ -51,7 +49,7 @@ pub data Step (b : List ℕ) (f : ℕ) (s : Seen) (low at : ℕ) (g : Seen) : Ty
 pub step_of : (b : List ℕ) (f : ℕ) (s : Seen) (low at : ℕ) (g : Seen) → read_from b (suc f) s low at ≡ good g → Step b f s low at g
 step_of b f s low at g h = go (frame_of fields b low at) refl
   where
-    field : (tag len : ℕ) → frame_of fields b low at ≡ Field tag len → Step b f s low at g
+    field : (tag len : ℕ) → frame_of fields b low at ≡ Ok (framed tag len) → Step b f s low at g
     field tag len w =
         let r = framing fields b low at tag len w in
         let c = good_content b s g low at tag len w (suc f) h in
@@ -60,8 +58,8 @@ step_of b f s low at g h = go (frame_of fields b low at) refl
         (λ e. let n : tag ≡ 6 → ⊥ = eqb-false _ _ e in let m : suc f - 1 ≡ f = omega arith in more tag len r c n (rw m at (good_next b s g low at tag len w (suc f) h n)))
 
     go : (r : Framed) → frame_of fields b low at ≡ r → Step b f s low at g
-    go (Wrong p) w = good_wrong b s g low at (suc f) p h w
-    go (Field tag len) w = field tag len w
+    go (Err p) w = good_wrong b s g low at (suc f) p h w
+    go (Ok f) w = field f.tag f.len w
 
 -- after field 1 nothing says another n
 pub told_n : (b : List ℕ) (s : Seen) (tag at len : ℕ) → (tag ≡ 1 → ⊥) → (told b s tag at len).head.n ≡ s.head.n

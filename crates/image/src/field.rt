@@ -19,7 +19,7 @@ const KINDS: u8 = 6;
 
 // A kind of field: its tag, whether it must stand, the least and the most bytes of its body, what these are a multiple of, and
 // whether another may stand behind a full one.
-#[derive(Clone, Copy)]
+#[derive(Clone, Copy, Debug, PartialEq, Eq)]
 pub struct Kind {
     pub tag: u8,
     pub must: bool,
@@ -29,37 +29,38 @@ pub struct Kind {
     pub again: bool,
 }
 
-// A field whose tag, length and body are right, or the place that is wrong.
-#[derive(Clone, Copy)]
-pub enum Framed {
-    Wrong { place: usize },
-    Field { tag: u8, len: usize },
+// A field whose tag, length and body are right. A tag stays the number that it is in the image: the format is a table of such numbers (`fields`), of which
+// `read_after_write` and `write_after_read` speak.
+#[derive(Clone, Copy, Debug, PartialEq, Eq)]
+pub struct Field {
+    pub tag: u8,
+    pub len: usize,
 }
 
-// The field at `at`, where `low` is the lowest rank that may come next.
-pub fn frame(image: &[u8], low: u8, at: usize) -> Framed
+// The field at `at`, or the place that is wrong, where `low` is the lowest rank that may come next.
+pub fn frame(image: &[u8], low: u8, at: usize) -> Result<Field, usize>
     requires { at ≤ length image.now }
     ensures { result ≡ frame_of fields image.now low at }
 {
     let size = image.len();
     if size <= at {
-        return Framed::Wrong { place: size };
+        return Err(size);
     }
     let tag = image[at];
     if !right_tag(low, tag) {
-        return Framed::Wrong { place: at };
+        return Err(at);
     }
     if size - at < 3 {
-        return Framed::Wrong { place: size };
+        return Err(size);
     }
     let len = read16(image, at + 1) as usize;
     if !right_length(tag, len) {
-        return Framed::Wrong { place: at };
+        return Err(at);
     }
     if size - at - 3 < len {
-        return Framed::Wrong { place: size };
+        return Err(size);
     }
-    Framed::Field { tag, len }
+    Ok(Field { tag, len })
 }
 
 // The format: its kinds of field in their order, each with its tag and length. Past the last a kind that no field has.
@@ -124,8 +125,7 @@ fn rank(tag: u8) -> u8
 fn right_tag(low: u8, tag: u8) -> bool
     ensures { result ≡ right_tag fields low tag }
 {
-    let mut i = low;
-    while i < KINDS {
+    for i in low..KINDS {
         let k = kind_at(i);
         if k.tag == tag {
             return true;
@@ -133,7 +133,6 @@ fn right_tag(low: u8, tag: u8) -> bool
         if k.must {
             return false;
         }
-        i += 1;
     }
     false
 }
@@ -143,13 +142,7 @@ fn right_length(tag: u8, len: usize) -> bool
     ensures { result ≡ right_length fields tag len }
 {
     let k = kind_at(rank(tag));
-    if len % k.unit != 0 {
-        return false;
-    }
-    if len < k.least {
-        return false;
-    }
-    len <= k.most
+    len % k.unit == 0 && k.least <= len && len <= k.most
 }
 
 // The lowest rank that may come after a field: after a full field of entries another may come.
@@ -158,11 +151,9 @@ pub fn low_after(tag: u8, len: usize) -> u8
 {
     let place = rank(tag);
     let k = kind_at(place);
-    if k.again {
-        if len == k.most {
-            return place;
-        }
-        return place + 1;
+    if k.again && len == k.most {
+        place
+    } else {
+        place + 1
     }
-    place + 1
 }

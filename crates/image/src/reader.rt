@@ -5,13 +5,13 @@ ghost use Rattle.image.specs.Head.{unnamed};
 ghost use Rattle.image.specs.Reading.{right_length, entries_at, told_head, read_of};
 ghost use Rattle.image.specs.Cursor.{cursor, outline_in, rise_of, content_of, took_of, outcome_of};
 
-use crate::field::{ENTRY_SIZE, Framed, frame, low_after};
+use crate::field::{ENTRY_SIZE, Field, frame, low_after};
 use crate::head::Head;
 use words::bytes::{read32, read64};
 
 // What a reader carries from field to field: the lowest rank that may come, the offset, what the fields said, how many
 // entries there were, and the least slot that may follow.
-#[derive(Clone, Copy)]
+#[derive(Clone, Copy, Debug, PartialEq, Eq)]
 pub struct Cursor {
     pub low: u8,
     pub at: usize,
@@ -23,7 +23,7 @@ pub struct Cursor {
 }
 
 // What an image says, but for its entries.
-#[derive(Clone, Copy)]
+#[derive(Clone, Copy, Debug, PartialEq, Eq)]
 pub struct Outline {
     pub head: Head,
     pub label_at: usize,
@@ -31,51 +31,26 @@ pub struct Outline {
     pub count: usize,
 }
 
-#[derive(Clone, Copy)]
-pub enum Outcome {
-    Bad { place: usize },
-    Good { outline: Outline },
-}
-
-// Whether a body's content is right, with the least slot that may follow.
-#[derive(Clone, Copy)]
-pub enum Content {
-    Off,
-    Right { floor: u64 },
-}
-
 // What an image says, or the place where it is malformed.
-pub fn read(image: &[u8]) -> Outcome
+pub fn read(image: &[u8]) -> Result<Outline, usize>
     ensures { result ≡ outcome_of (read_of image.now) }
 {
     let mut c = first_cursor();
     loop {
-        let low = c.low;
         let at = c.at;
-        match frame(image, low, at) {
-            Framed::Wrong { place } => {
-                return Outcome::Bad { place };
+        let Field { tag, len } = frame(image, c.low, at)?;
+        let body = at + 3;
+        let Some(floor) = content_at(image, c, tag, body, len) else {
+            return Err(at);
+        };
+        if tag == 6 {
+            let next = body + len;
+            if next < image.len() {
+                return Err(next);
             }
-            Framed::Field { tag, len } => {
-                let body = at + 3;
-                match content_at(image, c, tag, body, len) {
-                    Content::Off => {
-                        return Outcome::Bad { place: at };
-                    }
-                    Content::Right { floor } => {
-                        if tag == 6 {
-                            let next = body + len;
-                            if next < image.len() {
-                                return Outcome::Bad { place: next };
-                            }
-                            let outline = outline_of(c);
-                            return Outcome::Good { outline };
-                        }
-                        c = took(image, c, tag, body, len, floor);
-                    }
-                }
-            }
+            return Ok(outline_of(c));
         }
+        c = took(image, c, tag, body, len, floor);
     }
 }
 
@@ -102,56 +77,45 @@ fn first_cursor() -> Cursor
 fn outline_of(c: Cursor) -> Outline
     ensures { result ≡ outline_in c }
 {
-    let head = c.head;
     Outline {
-        head,
+        head: c.head,
         label_at: c.label_at,
         label_len: c.label_len,
         count: c.count,
     }
 }
 
-// The content of a body at `at`: only slots and the count can be wrong.
-fn content_at(image: &[u8], c: Cursor, tag: u8, at: usize, len: usize) -> Content
+// The least slot that may follow a body at `at`, if its content is right: only slots and the count can be wrong.
+fn content_at(image: &[u8], c: Cursor, tag: u8, at: usize, len: usize) -> Option<u64>
     requires { (at + len ≤ length image.now) × (right_length fields tag len ≡ true) }
     ensures { result ≡ content_of image.now c tag at len }
 {
-    let n = c.head.n;
-    let floor = c.floor;
-    let count = c.count;
     if tag == 5 {
-        return rise(image, n, floor, at, len / ENTRY_SIZE);
+        return rise(image, c.head.n, c.floor, at, len / ENTRY_SIZE);
     }
-    if tag == 6 {
-        if read64(image, at) == count as u64 {
-            return Content::Right { floor };
-        }
-        return Content::Off;
+    if tag == 6 && read64(image, at) != c.count as u64 {
+        return None;
     }
-    Content::Right { floor }
+    Some(c.floor)
 }
 
-// Whether the slots of `count` entries at `at` rise, start no lower than `floor` and stay below n.
-fn rise(image: &[u8], n: u64, floor: u64, at: usize, count: usize) -> Content
+// The least slot that may follow `count` entries at `at`, if their slots rise, start no lower than `floor` and stay below n.
+fn rise(image: &[u8], n: u64, floor: u64, at: usize, count: usize) -> Option<u64>
     requires { at + entry_size * count ≤ length image.now }
     ensures { result ≡ rise_of n floor (entries_at image.now at count) }
 {
     let mut low = floor;
-    let mut p = at;
-    let mut left = count;
-    while 0 < left {
-        let slot = read64(image, p);
+    for i in 0..count {
+        let slot = read64(image, at + ENTRY_SIZE * i);
         if slot < low {
-            return Content::Off;
+            return None;
         }
         if n <= slot {
-            return Content::Off;
+            return None;
         }
         low = slot + 1;
-        p += ENTRY_SIZE;
-        left -= 1;
     }
-    Content::Right { floor: low }
+    Some(low)
 }
 
 // The cursor past a field whose body stands at `at`.

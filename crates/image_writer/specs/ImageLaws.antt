@@ -1,5 +1,5 @@
 -- The parts of an image, one after the other. Assumes nothing.
-use Rattle.std.specs.Prelude.{◌≡◌, refl, false, List, [], ◌∷◌, ◌++◌, ℕ, zero, suc, ◌+◌, ◌*◌, ◌-◌, ◌/◌, ◌<◌, ◌≤◌, min, length, get_or, take, drop, set, eqb}
+use Rattle.std.specs.Prelude.{◌≡◌, refl, false, List, [], ◌∷◌, ◌++◌, ℕ, zero, suc, ◌+◌, ◌*◌, ◌-◌, ◌/◌, ◌%◌, ◌<◌, ◌≤◌, min, length, get_or, take, drop, set, eqb}
 use Rattle.std.proofs.Common.{ap, sym, ◌∙◌, arith, length-append, length-take, length-drop, length-set, drop-cons, ne_eqb}
 use Rattle.std.proofs.lemmas.List.Edits.{sets}
 use Rattle.std.proofs.Math.Seq.{drop-length}
@@ -98,6 +98,13 @@ put_image hd label es b0 b1 b2 b3 b4 b5 b6 p1 p2 p3 p q end h1 h2 h3 h4 h5 hq h6
     (put_then _ _ b2 b3 b6 p2 p3 h3
     (put_then _ _ b3 b4 b6 p3 p h4
     (put_then _ _ b4 b5 b6 p q (fields_put es b4 b5 p q h5 hq) h6.bytes))))
+
+-- the lower bytes of a number
+pub take_bytes : (k n x : ℕ) → k ≤ n → take k (bytes_of n x) ≡ bytes_of k x
+unfolding bytes_of
+take_bytes zero n x h = refl
+take_bytes (suc k) zero x h = absurd (omega arith)
+take_bytes (suc k) (suc n) x h = ap (λ (l : List ℕ). x % 256 ∷ l) (take_bytes k n (x / 256) (omega arith))
 
 -- a field of a number, as it is put
 pub put_number : (tag k x : ℕ) (before head after : List ℕ) (at : ℕ) → head ≡ sets before at (tag ∷ bytes_of 2 k) → after ≡ sets head (at + 3) (bytes_of k x)

@@ -1,5 +1,5 @@
 -- The writer's outcomes, one for each way it ends. Assumes nothing.
-use Rattle.std.specs.Prelude.{◌≡◌, List, ℕ, ◌+◌, ◌<◌, ◌≤◌}
+use Rattle.std.specs.Prelude.{Ok, Err, ◌≡◌, List, ℕ, ◌+◌, ◌<◌, ◌≤◌}
 use Rattle.std.proofs.Common.{ap, sym, ◌∙◌}
 use native.Mathlib.Omega.{arith}
 use Rattle.std.proofs.Math.ListN.{length}
@@ -13,24 +13,23 @@ use Rattle.image.specs.Format.{entries_of, image_of}
 use Rattle.image_writer.specs.ImageLaws.{length_image}
 use Rattle.image_writer.specs.Pieces.{size_of}
 use Rattle.image_writer.specs.Writing.{writes, onto, write_after, write_of}
-use Rattle.image_writer.specs.declared.dirty.Scan.TheVariants.{Dirty, Clean}
-use Rattle.image_writer.specs.declared.writer.Written.TheVariants as written
+use Rattle.image_writer.specs.declared.writer.WriteRefusal.TheVariants as write_refusal
 
 module _ (hd : Head) (label words flags out : List ℕ) where
-  pub writes_dirty : (s : ℕ) → scan_of words flags ≡ Dirty s → writes (written.Dirty (record { 0 = s })) out ≡ write_of hd label words flags out
+  pub writes_dirty : (s : ℕ) → scan_of words flags ≡ Err s → writes (Err (write_refusal.Dirty (record { 0 = s }))) out ≡ write_of hd label words flags out
   unfolding write_of write_after
   writes_dirty s h = rw h
 
-  module _ (c : ℕ) (h : scan_of words flags ≡ Clean c) where
+  module _ (c : ℕ) (h : scan_of words flags ≡ Ok c) where
     size_is : size_of (length label) c ≡ length (image_of hd label (entries_of words flags))
     size_is = ap (λ (x : ℕ). size_of (length label) x) (count_is words flags c h) ∙ sym (length_image hd label (entries_of words flags))
 
-    pub writes_room : length out < size_of (length label) c → writes (written.Room (size_of (length label) c)) out ≡ write_of hd label words flags out
+    pub writes_room : length out < size_of (length label) c → writes (Err (write_refusal.Room (size_of (length label) c))) out ≡ write_of hd label words flags out
     unfolding write_of write_after
     writes_room r = let z : length out < length (image_of hd label (entries_of words flags)) = rw size_is at r in rw (h, size_is, lt-ltb _ _ z)
 
     pub writes_done : size_of (length label) c ≤ length out → (after : List ℕ) → after ≡ sets out 0 (image_of hd label (entries_of words flags))
-        → writes (written.Done (size_of (length label) c)) after ≡ write_of hd label words flags out
+        → writes (Ok (size_of (length label) c)) after ≡ write_of hd label words flags out
     unfolding write_of write_after
     writes_done r after o =
         let z : length (image_of hd label (entries_of words flags)) ≤ length out = rw size_is at r in

@@ -1,39 +1,27 @@
 // DIRTY: the smallest slot whose flag is above 1, or that is vacant and holds a nonzero word.
 ghost use Rattle.std.specs.Prelude.{◌≡◌, length};
 ghost use Rattle.image_writer.specs.Dirty.{scan_of};
-ghost use Rattle.lent.specs.Lent.{words_in};
 
-use lent::store::word;
+use lent::store::Stored;
 
-// The smallest dirty slot, or the number of occupied slots of a table that has none.
-#[derive(Clone, Copy)]
-pub enum Scan {
-    Dirty { slot: usize },
-    Clean { count: usize },
-}
-
-// The smallest dirty slot, else the number of occupied slots.
-pub fn scan_table(words: &[u64], flags: &[u8], lent: &[u8], bytes: bool) -> Scan
-    requires { length (words_in bytes words.now lent.now) ≡ length flags.now }
-    ensures { result ≡ scan_of (words_in bytes words.now lent.now) flags.now }
+// The number of occupied slots of a table that has no dirty one, else the smallest dirty slot.
+pub fn scan_table<E: Stored>(words: &[E], flags: &[u8]) -> Result<usize, usize>
+    requires { length (E.words words.now) ≡ length flags.now }
+    ensures { result ≡ scan_of (E.words words.now) flags.now }
 {
-    let n = flags.len();
-    let mut s = 0;
     let mut count = 0;
-    while s < n {
-        let slot = s;
-        s += 1;
+    for slot in 0..flags.len() {
         let flag = flags[slot];
         if 1 < flag {
-            return Scan::Dirty { slot };
+            return Err(slot);
         }
         if flag == 0 {
-            if word(bytes, words, lent, slot as u64) != 0 {
-                return Scan::Dirty { slot };
+            if E::word(words, slot as u64) != 0 {
+                return Err(slot);
             }
         } else {
             count += 1;
         }
     }
-    Scan::Clean { count }
+    Ok(count)
 }

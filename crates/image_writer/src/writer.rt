@@ -5,55 +5,50 @@ ghost use Rattle.words.specs.Bytes.{bytes_of};
 ghost use Rattle.image.specs.Format.{entry_size, label_most, entry_bytes, field_of, label_field, fields_for, image_of};
 ghost use Rattle.image_writer.specs.Pieces.{entries_to, Put, PutEntries, PutFields, chunk, size_of};
 ghost use Rattle.image_writer.specs.Writing.{writes, head_of, write_of};
-ghost use Rattle.lent.specs.Lent.{words_in};
 
-use crate::dirty::{Scan, scan_table};
+use crate::dirty::scan_table;
 use funnel::table::FunnelTable;
 use image::field::{ENTRY_SIZE, FIELD_ENTRIES};
 use image::head::Head;
-use lent::store::word;
+use lent::store::Stored;
 use refusal::Gate;
-use words::bytes::{write16, write32, write64};
+use words::bytes::{write16, write64};
 use words::place::GlobalSlot;
 
-// What the writer answers: a refusal of the gate, DIRTY with the smallest dirty slot, ROOM with the length that the image needs, or the image's length.
-#[derive(Clone, Copy)]
-pub enum Written {
+// Why the writer writes nothing: a refusal of the gate, DIRTY with the smallest dirty slot, or ROOM with the length that the image needs.
+#[derive(Clone, Copy, Debug, PartialEq, Eq)]
+pub enum WriteRefusal {
     Gate(Gate),
     Dirty { slot: GlobalSlot },
     Room { need: u64 },
-    Done { len: u64 },
 }
 
-// The image of a table whose buffers have its length, or why there is none.
-pub fn write(
+// The image of a table whose buffers have its length, and the image's length, or why there is none.
+pub fn write<E: Stored>(
     table: FunnelTable,
-    words: &[u64],
+    words: &[E],
     flags: &[u8],
     label: &[u8],
     out: &mut [u8],
-    lent: &[u8],
-    bytes: bool,
-) -> Written
-    requires { (length (words_in bytes words.now lent.now) ≡ length flags.now) × (length flags.now ≤ 2 ^ 32) × (length label.now ≤ label_most) }
-    ensures { writes result out.new ≡ write_of (head_of table) label.now (words_in bytes words.now lent.now) flags.now out.old }
+) -> Result<u64, WriteRefusal>
+    requires { (length (E.words words.now) ≡ length flags.now) × (length flags.now ≤ 2 ^ 32) × (length label.now ≤ label_most) }
+    ensures { writes result out.new ≡ write_of (head_of table) label.now (E.words words.now) flags.now out.old }
 {
-    match scan_table(words, flags, lent, bytes) {
-        Scan::Dirty { slot } => {
-            return Written::Dirty {
+    let count = match scan_table(words, flags) {
+        Err(slot) => {
+            return Err(WriteRefusal::Dirty {
                 slot: GlobalSlot(slot as u64),
-            };
+            });
         }
-        Scan::Clean { count } => {
-            let need = image_size(label.len(), count);
-            if out.len() < need {
-                return Written::Room { need: need as u64 };
-            }
-            let head = head_of(table);
-            write_all(head, words, flags, label, count, out, lent, bytes);
-            return Written::Done { len: need as u64 };
-        }
+        Ok(count) => count,
+    };
+    let need = image_size(label.len(), count);
+    if out.len() < need {
+        return Err(WriteRefusal::Room { need: need as u64 });
     }
+    let head = head_of(table);
+    write_all(head, words, flags, label, count, out);
+    Ok(need as u64)
 }
 
 // The length of an image.
@@ -70,26 +65,24 @@ pub fn image_size(label_len: usize, count: usize) -> usize
 }
 
 // The whole image, into room that is enough. Field 6 is the number of occupied flags, whatever count the state has.
-fn write_all(
+fn write_all<E: Stored>(
     head: Head,
-    words: &[u64],
+    words: &[E],
     flags: &[u8],
     label: &[u8],
     count: usize,
     out: &mut [u8],
-    lent: &[u8],
-    bytes: bool,
 )
-    requires { (length (words_in bytes words.now lent.now) ≡ length flags.now) × (count ≡ length (entries_to (words_in bytes words.now lent.now) flags.now 0)) × (length label.now ≤ label_most) × (size_of (length label.now) count ≤ length out.old) }
-    ensures { out.new ≡ sets out.old 0 (image_of head label.now (entries_to (words_in bytes words.now lent.now) flags.now 0)) }
+    requires { (length (E.words words.now) ≡ length flags.now) × (count ≡ length (entries_to (E.words words.now) flags.now 0)) × (length label.now ≤ label_most) × (size_of (length label.now) count ≤ length out.old) }
+    ensures { out.new ≡ sets out.old 0 (image_of head label.now (entries_to (E.words words.now) flags.now 0)) }
 {
     let entries = count as u64;
-    let behind_n = write_field8(out, 0, 1, head.n);
-    let behind_e = write_field4(out, behind_n, 2, head.e);
-    let behind_seed = write_field8(out, behind_e, 3, head.seed);
+    let behind_n = write_number::<8>(out, 0, 1, head.n);
+    let behind_e = write_number::<4>(out, behind_n, 2, head.e);
+    let behind_seed = write_number::<8>(out, behind_e, 3, head.seed);
     let behind_label = write_label(label, out, behind_seed);
-    let behind_entries = write_fields(words, flags, count, out, behind_label, lent, bytes);
-    write_field8(out, behind_entries, 6, entries);
+    let behind_entries = write_fields(words, flags, count, out, behind_label);
+    write_number::<8>(out, behind_entries, 6, entries);
 }
 
 // What names a table.
@@ -103,24 +96,14 @@ pub fn head_of(table: FunnelTable) -> Head
     }
 }
 
-// A field of a number of eight bytes; the offset after it.
-pub fn write_field8(out: &mut [u8], at: usize, tag: u8, x: u64) -> usize
-    requires { at + 11 ≤ length out.old }
-    ensures { Put (field_of tag (bytes_of 8 x)) out.old at out.new result }
+// A field of a number of N bytes; the offset after it.
+pub fn write_number<const N: usize>(out: &mut [u8], at: usize, tag: u8, x: u64) -> usize
+    requires { (N ≤ 8) × (at + (3 + N) ≤ length out.old) }
+    ensures { Put (field_of tag (bytes_of N x)) out.old at out.new result }
 {
-    write_head(out, at, tag, 8);
-    write64(out, at + 3, x);
-    at + 11
-}
-
-// A field of a number of four bytes; the offset after it.
-pub fn write_field4(out: &mut [u8], at: usize, tag: u8, x: u64) -> usize
-    requires { at + 7 ≤ length out.old }
-    ensures { Put (field_of tag (bytes_of 4 x)) out.old at out.new result }
-{
-    write_head(out, at, tag, 4);
-    write32(out, at + 3, x);
-    at + 7
+    write_head(out, at, tag, N as u64);
+    out[at + 3..at + (3 + N)].copy_from_slice(&x.to_le_bytes()[..N]);
+    at + (3 + N)
 }
 
 // A field's tag and length.
@@ -142,35 +125,20 @@ pub fn write_label(label: &[u8], out: &mut [u8], at: usize) -> usize
         return at;
     }
     write_head(out, at, 4, n as u64);
-    copy_in(label, out, at + 3);
+    out[at + 3..at + 3 + n].copy_from_slice(label);
     at + 3 + n
 }
 
-// A slice copied to `at`.
-fn copy_in(part: &[u8], out: &mut [u8], at: usize)
-    requires { at + length part.now ≤ length out.old }
-    ensures { out.new ≡ sets out.old at part.now }
-{
-    let n = part.len();
-    let mut i = 0;
-    while i < n {
-        out[at + i] = part[i];
-        i += 1;
-    }
-}
-
-// The fields of entries; the offset after them.
-fn write_fields(
-    words: &[u64],
+// The fields of entries; the offset after them. The loop is over fields, of which each says from which slot the next goes on.
+fn write_fields<E: Stored>(
+    words: &[E],
     flags: &[u8],
     count: usize,
     out: &mut [u8],
     at: usize,
-    lent: &[u8],
-    bytes: bool,
 ) -> usize
-    requires { (length (words_in bytes words.now lent.now) ≡ length flags.now) × (count ≡ length (entries_to (words_in bytes words.now lent.now) flags.now 0)) × (at + entry_size * count + 3 * fields_for count ≤ length out.old) }
-    ensures { PutFields (words_in bytes words.now lent.now) flags.now count out.old at out.new result }
+    requires { (length (E.words words.now) ≡ length flags.now) × (count ≡ length (entries_to (E.words words.now) flags.now 0)) × (at + entry_size * count + 3 * fields_for count ≤ length out.old) }
+    ensures { PutFields (E.words words.now) flags.now count out.old at out.new result }
 {
     let mut s = 0;
     let mut left = count;
@@ -178,9 +146,9 @@ fn write_fields(
     while 0 < left {
         let m = chunk_of(left);
         write_head(out, p, 5, (ENTRY_SIZE * m) as u64);
-        s = write_entries(words, flags, s, m, out, p + 3, lent, bytes);
+        s = write_entries(words, flags, s, m, out, p + 3);
         p = p + 3 + ENTRY_SIZE * m;
-        left = left - m;
+        left -= m;
     }
     p
 }
@@ -189,26 +157,20 @@ fn write_fields(
 pub fn chunk_of(left: usize) -> usize
     ensures { result ≡ chunk left }
 {
-    if left < FIELD_ENTRIES {
-        left
-    } else {
-        FIELD_ENTRIES
-    }
+    left.min(FIELD_ENTRIES)
 }
 
-// The next m entries from slot `from` on, at `at`; the slot to go on from.
-fn write_entries(
-    words: &[u64],
+// The next m entries from slot `from` on, at `at`; the slot to go on from. The loop ends at the m-th occupied slot, wherever that is.
+fn write_entries<E: Stored>(
+    words: &[E],
     flags: &[u8],
     from: usize,
     m: usize,
     out: &mut [u8],
     at: usize,
-    lent: &[u8],
-    bytes: bool,
 ) -> usize
-    requires { (length (words_in bytes words.now lent.now) ≡ length flags.now) × (m ≤ length (entries_to (words_in bytes words.now lent.now) flags.now from)) × (at + entry_size * m ≤ length out.old) × (from ≤ length flags.now) }
-    ensures { PutEntries (words_in bytes words.now lent.now) flags.now from m out.old at out.new result }
+    requires { (length (E.words words.now) ≡ length flags.now) × (m ≤ length (entries_to (E.words words.now) flags.now from)) × (at + entry_size * m ≤ length out.old) × (from ≤ length flags.now) }
+    ensures { PutEntries (E.words words.now) flags.now from m out.old at out.new result }
 {
     let mut s = from;
     let mut left = m;
@@ -217,7 +179,7 @@ fn write_entries(
         let slot = s;
         s += 1;
         if flags[slot] != 0 {
-            let identity = word(bytes, words, lent, slot as u64);
+            let identity = E::word(words, slot as u64);
             write_entry(out, p, slot as u64, identity);
             p += ENTRY_SIZE;
             left -= 1;

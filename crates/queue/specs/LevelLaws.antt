@@ -1,7 +1,11 @@
 -- Laws of one level of flags over another. Assumes nothing.
-use Rattle.std.specs.Prelude.{Bool, true, false, List, ◌≡◌, refl, ℕ, ◌+◌, ◌*◌, ◌-◌, ◌/◌, ◌≤◌, ◌<◌, length, get_or, set, eqb, ltb}
+use Rattle.std.specs.Prelude.{Option, Some, None, not, cond, take, drop, Bool, true, false, List, ◌≡◌, refl, ℕ, ◌+◌, ◌*◌, ◌-◌, ◌/◌, ◌≤◌, ◌<◌, length, get_or, set, eqb, ltb}
 use Rattle.std.proofs.Common.{ap, sym, ◌∙◌, arith, length-set, get_or-set_same, get_or-set_other, eqb-true, ltb-true, ltb-false}
-use Rattle.std.proofs.lemmas.Bool.{eqb-false}
+use Rattle.std.specs.Option.{unwrap_or}
+use Rattle.std.specs.List.{position, position_or_len}
+use Rattle.std.proofs.lemmas.List.{length-take, length-drop, get_or-take, get_or-drop}
+use Rattle.std.proofs.lemmas.List.Sums.{prefix_len-le-length, fails_before_first, passes_at_first}
+use Rattle.std.proofs.lemmas.Bool.{false≢true, eqb-false}
 use Rattle.queue.specs.Level.{groups, IsClear, Over, Nearly, Lowered, Settled, FirstSet, GroupEnd, InGroup, Wiped}
 
 -- by a test's two results
@@ -142,6 +146,43 @@ module _ {b : List ℕ} {from i : ℕ} (p : Passed b from i) where
 
   pub passed_end : {to : ℕ} → from ≤ to → to ≤ i → FirstSet b from to to
   passed_end f h = record { least = f; most = omega arith; before = λ t l u. p.none t l (omega arith); here = λ l. absurd (omega arith) }
+
+-- ---- the first of a part of the bytes that is set, or the part's end
+
+first_or_end : (p : ℕ → Bool) (xs : List ℕ) → unwrap_or (position p xs) (length xs) ≡ position_or_len p xs
+first_or_end p xs = go (ltb (position_or_len p xs) (length xs)) refl
+  where
+    go : (t : Bool) → ltb (position_or_len p xs) (length xs) ≡ t → unwrap_or (cond t (Some (position_or_len p xs)) None) (length xs) ≡ position_or_len p xs
+    go true e = refl
+    go false e = let n = ltb-false _ _ e in let m = prefix_len-le-length (λ x. not (p x)) xs in omega arith
+
+clear_of : (v : ℕ) → not (eqb v 0) ≡ false → v ≡ 0
+clear_of v e = cases (eqb v 0) (eqb-true v 0) (λ f. let q : true ≡ false = rw f at e in absurd (false≢true (sym q)))
+
+set_of : (v : ℕ) → not (eqb v 0) ≡ true → v ≡ 0 → ⊥
+set_of v e z = let q : false ≡ true = rw z at e in false≢true q
+
+-- at the part from one place to another
+pub first_of_part : (b : List ℕ) (from to : ℕ) (o : Option ℕ) (r : ℕ) → r ≡ unwrap_or o (length (take (to - from) (drop from b)))
+    → o ≡ position (λ x. not (eqb x 0)) (take (to - from) (drop from b)) → from ≤ to → to ≤ length b → FirstSet b from to (from + r)
+first_of_part b from to o r e f g h =
+    let n : length (take (to - from) (drop from b)) ≡ to - from = rw (length-take, length-drop) (omega arith) in
+    let q : r ≡ position_or_len (λ x. not (eqb x 0)) (take (to - from) (drop from b)) = rw f at e ∙ first_or_end (λ x. not (eqb x 0)) (take (to - from) (drop from b)) in
+    let m : position_or_len (λ x. not (eqb x 0)) (take (to - from) (drop from b)) ≤ length (take (to - from) (drop from b)) = prefix_len-le-length (λ x. not (not (eqb x 0))) (take (to - from) (drop from b)) in
+    go (take (to - from) (drop from b)) n q m (λ k l. get_or-take (to - from) (drop from b) k 0 l ∙ get_or-drop from b k 0)
+  where
+    go : (part : List ℕ) → length part ≡ to - from → r ≡ position_or_len (λ x. not (eqb x 0)) part → position_or_len (λ x. not (eqb x 0)) part ≤ length part
+        → ((k : ℕ) → k < to - from → get_or part k 0 ≡ get_or b (from + k) 0) → FirstSet b from to (from + r)
+    go part n q m here =
+        record {
+          least = omega arith;
+          most = omega arith;
+          before = λ t l u.
+              let w : from + (t - from) ≡ t = omega arith in
+              let z = clear_of _ (fails_before_first (λ x. not (eqb x 0)) part (t - from) 0 (omega arith)) in
+              rw w at (sym (here (t - from) (omega arith)) ∙ z);
+          here = λ l c. set_of _ (passes_at_first (λ x. not (eqb x 0)) part 0 (omega arith)) (rw (← q) (here r (omega arith) ∙ c));
+        }
 
 -- ---- a range of bytes set to 0, as a loop that counts up makes it
 

@@ -1,8 +1,6 @@
 -- A queue: a set of numbers below m, in three levels of flags from byte `at` of a buffer on; and what its calls promise. Assumes nothing.
-use Rattle.std.specs.Prelude.{Bool, true, false, not, List, ◌≡◌, ℕ, zero, suc, ◌+◌, ◌≤◌, ◌<◌, length, get_or, eqb}
+use Rattle.std.specs.Prelude.{Option, Some, None, Bool, true, false, not, List, ◌≡◌, ℕ, zero, suc, ◌+◌, ◌≤◌, ◌<◌, length, get_or, eqb}
 use Rattle.words.specs.Pick.{pick}
-use Rattle.queue.specs.declared.scan.Smallest.{Smallest}
-use Rattle.queue.specs.declared.scan.Smallest.TheVariants.{At, Nothing}
 use Rattle.queue.specs.Level.{groups, Over}
 
 -- the bytes that a queue takes: a flag for each number, one for each 64 of those, and one for each 64 of these
@@ -43,9 +41,9 @@ pub record Changed (is : Bool) (before after : List ℕ) (at m i : ℕ) : Type 0
 -- ---- the smallest
 
 -- the smallest of k numbers from one on that passes a test
-unfoldable pub first_in : (ℕ → Bool) → (number k : ℕ) → Smallest
-first_in test number zero = Nothing
-first_in test number (suc k) = pick (test number) (At number) (first_in test (suc number) k)
+unfoldable pub first_in : (ℕ → Bool) → (number k : ℕ) → Option ℕ
+first_in test number zero = None
+first_in test number (suc k) = pick (test number) (Some number) (first_in test (suc number) k)
 
 -- what that says of a number s: it is among them, it passes, and none before it does
 pub record Found (test : ℕ → Bool) (number k s : ℕ) : Type 0 where

@@ -1,7 +1,6 @@
 -- Laws of a queue: how each call makes it. Assumes nothing.
-use Rattle.std.specs.Prelude.{true, false, List, ◌≡◌, refl, ℕ, ◌+◌, ◌-◌, ◌/◌, ◌≤◌, ◌<◌, length, get_or, set}
+use Rattle.std.specs.Prelude.{Some, None, true, false, List, ◌≡◌, refl, ℕ, ◌+◌, ◌-◌, ◌/◌, ◌≤◌, ◌<◌, length, get_or, set}
 use Rattle.std.proofs.Common.{sym, ◌∙◌, arith, length-set, get_or-set_same, get_or-set_other, eq-eqb, ne_eqb}
-use Rattle.queue.specs.declared.scan.Smallest.TheVariants.{At, Nothing}
 use Rattle.queue.specs.Level.{groups, IsClear, Over, Nearly, Settled, FirstSet, InGroup, Wiped}
 use Rattle.queue.specs.LevelLaws.{over_kept, over_raised, over_lowered, cleared, under_set, under_clear, under_none}
 use Rattle.queue.specs.Queue.{room, holds, Queue, Emptied, Changed, first_in}
@@ -143,7 +142,7 @@ module _ {b : List ℕ} {at m : ℕ} (q : Queue b at m) (g : ℕ) (e : g ≡ gro
   top_over : Over b (at + m) (at + m + g) g
   top_over = rw e q.top
 
-  pub smallest_none : at + m + g + h ≤ r → Nothing ≡ first_in (holds b at) 0 m
+  pub smallest_none : at + m + g + h ≤ r → None ≡ first_in (holds b at) 0 m
   smallest_none l =
       let tops : (t : ℕ) → t < groups g → IsClear b (at + m + g + t) = λ t s. f.before (at + m + g + t) (omega arith) (omega arith) in
       let mids : (t : ℕ) → t < groups m → IsClear b (at + m + t) = λ t s. under_none top_over tops t (omega arith) in
@@ -160,7 +159,7 @@ module _ {b : List ℕ} {at m : ℕ} (q : Queue b at m) (g : ℕ) (e : g ≡ gro
       below_m : i < m
       below_m = under_set q.middle j fi (let l = smallest_group in omega arith) (fj.here smallest_group)
 
-      pub smallest_found : At i ≡ first_in (holds b at) 0 m
+      pub smallest_found : Some i ≡ first_in (holds b at) 0 m
       smallest_found =
           let tops : (t : ℕ) → t < r - (at + m + g) → IsClear b (at + m + g + t) = λ t u. f.before (at + m + g + t) (omega arith) (omega arith) in
           let mids : (t : ℕ) → t < j → IsClear b (at + m + t) = under_clear top_over (r - (at + m + g)) fj tops smallest_group in

@@ -1,9 +1,10 @@
-// The four calls of a queue of numbers below m, which lies in the bytes from `at` on.
+// The four calls of a queue of numbers below m, which lies in the bytes from `at` on. The buffer holds more than the queue, and each call promises
+// that the rest stays as it was (`Kept`): so it is lent whole, with the queue's place and size beside it, and there is no view of a part.
 ghost use Rattle.std.specs.Prelude.{true, false, ◌≡◌, ◌+◌, ◌≤◌, ◌<◌, length};
 ghost use Rattle.queue.specs.Queue.{room, holds, Queue, Emptied, Changed, first_in};
 
 use crate::level::{first_of, groups_of, settle};
-use crate::scan::{Smallest, first_set, wipe};
+use crate::scan::{first_set, wipe};
 
 // The queue becomes empty, whatever the bytes were.
 pub fn empty(b: &mut [u8], at: u64, m: u64)
@@ -41,8 +42,8 @@ pub fn remove(b: &mut [u8], at: u64, m: u64, i: u64)
     settle(b, middle, top, g, i / 64);
 }
 
-// The smallest number in the queue.
-pub fn smallest(b: &[u8], at: u64, m: u64) -> Smallest
+// The smallest number in the queue, if it has one.
+pub fn smallest(b: &[u8], at: u64, m: u64) -> Option<u64>
     requires { Queue b.now at m }
     ensures { result ≡ first_in (holds b.now at) 0 m }
 {
@@ -52,9 +53,8 @@ pub fn smallest(b: &[u8], at: u64, m: u64) -> Smallest
     let top = middle + g;
     let found = first_set(b, top, top + h);
     if found == top + h {
-        return Smallest::Nothing;
+        return None;
     }
     let j = first_of(b, middle, g, found - top);
-    let number = first_of(b, at, m, j);
-    Smallest::At { number }
+    Some(first_of(b, at, m, j))
 }

@@ -1,27 +1,22 @@
 // Flags in a row: the first that is set, and all of them cleared.
-ghost use Rattle.std.specs.Prelude.{◌≡◌, ◌≤◌, length};
+ghost use Rattle.std.specs.Prelude.{◌≡◌, ◌≤◌, length, nat_eq, not};
+ghost use Rattle.std.specs.List.{position};
 ghost use Rattle.queue.specs.Level.{FirstSet, Wiped};
-
-// The smallest number in a queue, where there is one.
-#[derive(Clone, Copy)]
-pub enum Smallest {
-    At { number: u64 },
-    Nothing,
-}
 
 // The first place from `from` on whose byte is not 0, or `to`.
 pub fn first_set(b: &[u8], from: u64, to: u64) -> u64
     requires { (from ≤ to) × (to ≤ length b.now) }
     ensures { FirstSet b.now from to result }
 {
-    let mut i = from;
-    while i < to {
-        if b[i as usize] != 0 {
-            return i;
-        }
-        i += 1;
-    }
-    to
+    let flags = &b[from as usize..to as usize];
+    from + first_place(flags).unwrap_or(flags.len()) as u64
+}
+
+// The first place of these flags that is not 0.
+fn first_place(flags: &[u8]) -> Option<usize>
+    ensures { result ≡ position (λ x. not (nat_eq x 0)) flags.now }
+{
+    flags.iter().position(|x| *x != 0)
 }
 
 // The bytes from `from` to below `to` become 0.
@@ -29,9 +24,5 @@ pub fn wipe(b: &mut [u8], from: u64, to: u64)
     requires { (from ≤ to) × (to ≤ length b.old) }
     ensures { Wiped b.old b.new from to }
 {
-    let mut i = from;
-    while i < to {
-        b[i as usize] = 0;
-        i += 1;
-    }
+    b[from as usize..to as usize].fill(0);
 }

@@ -1,9 +1,9 @@
 // Refusals: the numbers of 01's table, once.
 //
-// Each kind of answer in this repository is an enum of its own, whose cases are just the refusals that the call can
-// give, with their values. What they share is here: the names with their numbers, the refusals 1 to 7 that calls on a
-// table test first, and the refusal of a range reduction, which every caller hands on unchanged. A definition
-// `report_of` beside each answer gives a case its number, by `number_of`, and its values.
+// Each call that can refuse answers a Result, whose error is an enum of just the refusals that the call can give, with
+// their values. What these share is here: the names with their numbers, the refusals 1 to 7 that calls on a table test
+// first, and the refusal of a range reduction, which every caller hands on unchanged. A definition `report_of` beside
+// each answer gives a case its number, by `number_of`, and its values.
 
 #![tactic(auto)]
 
@@ -14,7 +14,7 @@ ghost use Rattle.refusal.specs.Table.{number_of, name_of};
 use words::place::LogicalProbe;
 
 // The rows of the table, in its order.
-#[derive(Clone, Copy)]
+#[derive(Clone, Copy, Debug, PartialEq, Eq)]
 pub enum Name {
     N,
     ZeroExp,
@@ -46,7 +46,7 @@ pub enum Name {
 }
 
 // The refusals that are tested first, in this order, by every call on a table.
-#[derive(Clone, Copy)]
+#[derive(Clone, Copy, Debug, PartialEq, Eq)]
 pub enum Gate {
     N,
     ZeroExp,
@@ -59,7 +59,7 @@ pub enum Gate {
 
 // What an index was drawn for: a bucket of an ordinary level, a primary slot, a fallback bucket A or B, or a slot of an elastic level. Only what
 // has a level carries one.
-#[derive(Clone, Copy)]
+#[derive(Clone, Copy, Debug, PartialEq, Eq)]
 pub enum Draw {
     Ordinary { level: u64 },
     Primary,
@@ -70,14 +70,15 @@ pub enum Draw {
 
 // All allowed words were rejected: how many these were, and which draw they were for. It is made in the reductions alone, and every caller
 // hands it on as it is.
-#[derive(Clone, Copy)]
+#[derive(Clone, Copy, Debug, PartialEq, Eq)]
 pub struct RangeRefusal {
     pub words: u64,
     pub draw: Draw,
     pub probe: LogicalProbe,
 }
 
-// The row of a refusal of the gate.
+// The row of a refusal of the gate. A function by name and no From: each caller hands its answer to `number`, and would say `Name::from` for it.
+#[tactic(auto, unfolding(crate::specs::Table::name_of))]
 pub fn gate_name(gate: Gate) -> Name
     ensures { result ≡ name_of gate }
 {
@@ -93,6 +94,7 @@ pub fn gate_name(gate: Gate) -> Name
 }
 
 // The number of a draw's domain.
+#[tactic(auto, unfolding(crate::specs::Draw::domain_of))]
 pub fn domain_number(draw: Draw) -> u64
     ensures { result ≡ domain_of draw }
 {
@@ -106,19 +108,18 @@ pub fn domain_number(draw: Draw) -> u64
 }
 
 // The level of a draw, 0 where it has none.
+#[tactic(auto, unfolding(crate::specs::Draw::draw_level_of))]
 pub fn draw_level(draw: Draw) -> u64
     ensures { result ≡ draw_level_of draw }
 {
     match draw {
-        Draw::Ordinary { level } => level,
-        Draw::Primary => 0,
-        Draw::FallbackA => 0,
-        Draw::FallbackB => 0,
-        Draw::Elastic { level } => level,
+        Draw::Ordinary { level } | Draw::Elastic { level } => level,
+        Draw::Primary | Draw::FallbackA | Draw::FallbackB => 0,
     }
 }
 
 // The number of a row.
+#[tactic(auto, unfolding(crate::specs::Table::number_of))]
 pub fn number(name: Name) -> u64
     ensures { result ≡ number_of name }
 {

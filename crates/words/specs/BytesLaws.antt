@@ -1,11 +1,13 @@
 -- Laws of numbers as bytes.
 -- Assumes nothing.
-use Rattle.std.specs.Prelude.{◌⊎◌, ◌≡◌, refl, List, [], ◌∷◌, ◌++◌, ℕ, zero, suc, ◌+◌, ◌*◌, ◌/◌, ◌%◌, ◌^◌, ◌<◌, ◌≤◌, length, get_or, take, drop, set, replicate}
+use Rattle.std.specs.Prelude.{◌⊎◌, ◌≡◌, refl, List, [], ◌∷◌, ◌++◌, ℕ, zero, suc, ◌+◌, ◌-◌, ◌*◌, ◌/◌, ◌%◌, ◌^◌, ◌<◌, ◌≤◌, length, get_or, take, drop, set, replicate}
+use Rattle.std.proofs.lemmas.List.{drop-drop}
 use Rattle.std.proofs.Common.{inl, inr, ⊎_elim, ap, sym, ◌∙◌, append_assoc, arith, pow-suc, length-append, lit<, drop-cons, get_or-set_other, length-take-le}
 use Rattle.std.proofs.Math.Nat.{div-div-eq-div-mul, mod-one, one-le-pow}
 use Rattle.std.proofs.Math.Arith.{mod-mul}
 use Rattle.std.proofs.lemmas.List.Edits.{sets, sets-eq}
 use Rattle.std.proofs.Math.Seq.{get_or-append_seam, append_snoc}
+use borrow.Rule.Slice.PartMut.{put_mid}
 use Rattle.words.specs.Bytes.{bytes_of, num_at, Bytes}
 
 -- stores of a list and then of another are stores of both
@@ -32,6 +34,39 @@ pub bytes_8 : (x : ℕ) → bytes_of 8 x ≡ bytes_of 4 x ++ bytes_of 4 (x / 429
 unfolding bytes_of
 bytes_8 x = let e : x / 256 / 256 / 256 / 256 ≡ x / 4294967296 = omega arith in rw e
 
+-- the bytes of a word, each by a division of its own
+pub low_2 : (x : ℕ) → bytes_of 2 x ≡ x % 65536 % 256 ∷ x % 65536 / 256 % 256 ∷ []
+low_2 x =
+    let a : x % 65536 % 256 ≡ x % 256 = omega arith in
+    let b : x % 65536 / 256 % 256 ≡ x / 256 % 256 = omega arith in
+    rw (bytes_2, a, b)
+
+pub low_4 : (x : ℕ) → bytes_of 4 x ≡ x % 4294967296 % 256 ∷ x % 4294967296 / 256 % 256 ∷ x % 4294967296 / 65536 % 256 ∷ x % 4294967296 / 16777216 % 256 ∷ []
+unfolding bytes_of
+low_4 x =
+    let a : x % 4294967296 % 256 ≡ x % 256 = omega arith in
+    let b : x % 4294967296 / 256 % 256 ≡ x / 256 % 256 = omega arith in
+    let c : x % 4294967296 / 65536 % 256 ≡ x / 256 / 256 % 256 = omega arith in
+    let d : x % 4294967296 / 16777216 % 256 ≡ x / 256 / 256 / 256 % 256 = omega arith in
+    rw (a, b, c, d)
+
+pub low_8 : (x : ℕ) → bytes_of 8 x ≡ x % 256 ∷ x / 256 % 256 ∷ x / 65536 % 256 ∷ x / 16777216 % 256 ∷ x / 4294967296 % 256 ∷ x / 1099511627776 % 256 ∷ x / 281474976710656 % 256 ∷ x / 72057594037927936 % 256 ∷ []
+unfolding bytes_of
+low_8 x =
+    let b : x / 256 / 256 ≡ x / 65536 = omega arith in
+    let c : x / 65536 / 256 ≡ x / 16777216 = omega arith in
+    let d : x / 16777216 / 256 ≡ x / 4294967296 = omega arith in
+    let e : x / 4294967296 / 256 ≡ x / 1099511627776 = omega arith in
+    let f : x / 1099511627776 / 256 ≡ x / 281474976710656 = omega arith in
+    let g : x / 281474976710656 / 256 ≡ x / 72057594037927936 = omega arith in
+    rw (b, c, d, e, f, g)
+
+-- a part of a list that is overwritten by as many
+pub part_put : (l s : List ℕ) (at end : ℕ) → end ≡ at + length s → end ≤ length l → put_mid at (end - at) l s ≡ sets l at s
+part_put l s at end e h =
+    let k : end - at ≡ length s = omega arith in
+    rw (sets-eq s l at (omega arith), k, drop-drop, append_assoc)
+
 pub num_2 : (b : List ℕ) (at : ℕ) → num_at b at 2 ≡ get_or b at 0 + 256 * get_or b (at + 1) 0
 unfolding num_at
 num_2 b at = let e : at + 1 ≡ suc at = omega arith in rw e (omega arith)
@@ -43,6 +78,22 @@ num_4 b at = let e : at + 2 ≡ suc (suc at) = omega arith in rw e (omega arith)
 pub num_8 : (b : List ℕ) (at : ℕ) → num_at b at 8 ≡ num_at b at 4 + 4294967296 * num_at b (at + 4) 4
 unfolding num_at
 num_8 b at = let e : at + 4 ≡ suc (suc (suc (suc at))) = omega arith in rw e (omega arith)
+
+-- the same by the bytes themselves
+pub digits_2 : (b : List ℕ) (at : ℕ) → num_at b at 2 ≡ get_or b at 0 + get_or b (at + 1) 0 * 256
+digits_2 b at = rw num_2 (omega arith)
+
+pub digits_4 : (b : List ℕ) (at : ℕ) → num_at b at 4 ≡ get_or b at 0 + get_or b (at + 1) 0 * 256 + get_or b (at + 2) 0 * 65536 + get_or b (at + 3) 0 * 16777216
+digits_4 b at =
+    let e : at + 2 + 1 ≡ at + 3 = omega arith in
+    rw (num_4, num_2, num_2, e) (omega arith)
+
+pub digits_8 : (b : List ℕ) (at : ℕ) → num_at b at 8 ≡ get_or b at 0 + get_or b (at + 1) 0 * 256 + get_or b (at + 2) 0 * 65536 + get_or b (at + 3) 0 * 16777216 + get_or b (at + 4) 0 * 4294967296 + get_or b (at + 5) 0 * 1099511627776 + get_or b (at + 6) 0 * 281474976710656 + get_or b (at + 7) 0 * 72057594037927936
+digits_8 b at =
+    let e : at + 4 + 1 ≡ at + 5 = omega arith in
+    let f : at + 4 + 2 ≡ at + 6 = omega arith in
+    let g : at + 4 + 3 ≡ at + 7 = omega arith in
+    rw (num_8, digits_4, digits_4, e, f, g) (omega arith)
 
 -- what was written is read back
 pub num_bytes : (p : List ℕ) (k x : ℕ) (r : List ℕ) → num_at (p ++ (bytes_of k x ++ r)) (length p) k ≡ x % 256 ^ k

@@ -4,7 +4,7 @@ ghost use Rattle.std.specs.Prelude.{◌≡◌, ◌+◌, ◌*◌, ◌%◌, ◌/�
 const P: u64 = 0x1_0000_0000;
 
 // A number of two words, hi * 2^64 + lo: a product, a position or a coordinate of up to 128 bits.
-#[derive(Clone, Copy)]
+#[derive(Clone, Copy, Debug, PartialEq, Eq)]
 pub struct Wide {
     pub hi: u64,
     pub lo: u64,

@@ -1,12 +1,9 @@
 -- `audit::restore::restore` meets its contract. Assumes nothing.
-use Prim.Native.Nat.{◌-◌, ◌≤◌}
+use Prim.Native.Nat.{◌≤◌}
 use mathlib.Core.Path.{◌≡◌}
 use lib.ListN.{length}
 use Rattle.audit.specs.Marked.{marks_of}
 use Rattle.audit.proofs.restore.restore.Given as goal
 
 abbrev pub invariant-loop-k : goal.invariant-loop-k
-invariant-loop-k g l = (l.k ≤ l.placed) × (l.marks ≡ marks_of (length l.initial.marks) (g.E.Stored.words l.order) l.k)
-
-abbrev pub decreases-loop-k : goal.decreases-loop-k
-decreases-loop-k g l = l.placed - l.k
+invariant-loop-k g l = l.marks ≡ marks_of (length l.initial.marks) (g.E.Stored.words l.order) l.k

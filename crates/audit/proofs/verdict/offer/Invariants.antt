@@ -1,12 +1,9 @@
 -- `audit::verdict::offer` meets its contract. Assumes nothing.
-use Prim.Native.Nat.{◌+◌, ◌-◌, ◌≤◌}
+use Prim.Native.Nat.{◌+◌, ◌≤◌}
 use mathlib.Core.Path.{◌≡◌}
 use lib.ListN.{length}
 use Rattle.audit.specs.Verdicts.{Offered}
 use Rattle.audit.proofs.verdict.offer.Given as goal
 
 abbrev pub invariant-loop-number : goal.invariant-loop-number
-invariant-loop-number l = (l.number ≤ l.m) × (length l.initial.marks ≡ l.start + l.m) × Offered l.start l.m l.number l.initial.marks l.marks
-
-abbrev pub decreases-loop-number : goal.decreases-loop-number
-decreases-loop-number l = l.m - l.number
+invariant-loop-number l = (length l.initial.marks ≡ l.start + l.m) × Offered l.start l.m l.number l.initial.marks l.marks

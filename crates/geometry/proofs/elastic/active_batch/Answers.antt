@@ -1,10 +1,8 @@
+use mathlib.Core.Path.{◌≡◌, ◌∙◌}
 use native.Mathlib.Omega.{arith}
 use Rattle.geometry.specs.ElasticLaws.{length_fits, quota_fits}
-use Rattle.geometry.proofs.ActiveBatch.{looking_start, looking_found, looking_step, looking_end}
+use Rattle.geometry.proofs.ActiveBatch.{looking_found, looking_step, looking_end}
 use Rattle.geometry.proofs.elastic.active_batch.Goals as goal
-
-pub loop-i-init : goal.loop-i-init
-loop-i-init c = looking_start _ _ _ _ _ c.requires.0
 
 pub next_quota-quota-requires : goal.next_quota-quota-requires
 next_quota-quota-requires c =
@@ -23,16 +21,13 @@ overflow_sub-rest c = length_fits _ _ _ c.next_length-length.ensures
 pub overflow_sub-spare : goal.overflow_sub-spare
 overflow_sub-spare c = quota_fits _ _ _ _ _ _ c.next_quota-quota.ensures
 
-pub overflow_add-i : goal.overflow_add-i
-overflow_add-i c = omega arith
-
-pub loop-i-smaller : goal.loop-i-smaller
-loop-i-smaller c = omega arith
-
 pub loop-i-preserved : goal.loop-i-preserved
 loop-i-preserved c =
     let d = c in
     looking_step _ _ _ _ _ _ _ _ _ _ d.loop-i.invariant d.loop-i-test.true _ _ c.next_length-length.ensures c.next_quota-quota.ensures c.if-left-quota.false
 
 pub returns : goal.returns
-returns c = looking_end _ _ _ _ _ _ _ _ _ _ c.loop-i.invariant c.loop-i-test.false
+returns c =
+    let k = c.loop-i.invariant in
+    let last : c.args.plan.levels ≡ c.loop-i.i = omega (arith, k.within) in
+    last ∙ looking_end _ _ _ _ _ _ _ _ _ _ k c.loop-i-test.false

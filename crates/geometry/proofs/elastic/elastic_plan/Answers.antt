@@ -15,7 +15,7 @@ returns-in_err-config_gate c =
 pub fill-requires : goal.fill-requires
 fill-requires c =
     let f = config_gate_facts _ _ (sym c.config_gate.ensures ∙ c.in_ok-config_gate.was) in
-    (f.most, f.some, omega arith, omega arith)
+    (f.most, f.some)
 
 pub returns : goal.returns
 returns c =

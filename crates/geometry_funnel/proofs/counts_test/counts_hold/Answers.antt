@@ -4,12 +4,7 @@ use Rattle.geometry_funnel.proofs.counts_test.counts_hold.Goals as goal
 
 pub returns-then-chain_holds : goal.returns-then-chain_holds
 returns-then-chain_holds c =
-    let s = c in
-    let h = c.chain_holds in
-    both_say _ _ _ _ c.first_holds.result s.requires.0 s.requires.1 h.ensures c.first_holds.ensures c.if-chain_holds.true
+    both_say _ _ _ _ c.first_holds.result c.requires.0 c.requires.1 c.chain_holds.ensures c.first_holds.ensures c.if-chain_holds.true
 
-pub returns : goal.returns
-returns c =
-    let s = c in
-    let h = c.chain_holds in
-    no_chain _ _ _ _ s.requires.0 s.requires.1 h.ensures c.if-chain_holds.false
+pub returns-else-chain_holds : goal.returns-else-chain_holds
+returns-else-chain_holds c = rw c.if-chain_holds.false (no_chain _ _ _ _ c.requires.0 c.requires.1 c.chain_holds.ensures c.if-chain_holds.false)

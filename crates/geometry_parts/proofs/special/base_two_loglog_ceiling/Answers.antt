@@ -4,8 +4,5 @@ use native.Mathlib.Omega.{arith}
 use Rattle.geometry.specs.LoglogLaws.{loglog_by}
 use Rattle.geometry_parts.proofs.special.base_two_loglog_ceiling.Goals as goal
 
-pub returns-then-g-eq0 : goal.returns-then-g-eq0
-returns-then-g-eq0 c = omega (arith, loglog_by _ _ _ (search rules) (search rules) c.ceil_log2.ensures c.ceil_log2-g.ensures)
-
-pub returns-else-g-eq0 : goal.returns-else-g-eq0
-returns-else-g-eq0 c = omega (arith, loglog_by _ _ _ (search rules) (search rules) c.ceil_log2.ensures c.ceil_log2-g.ensures)
+pub returns : goal.returns
+returns c = omega (arith, c.max.ensures, loglog_by _ _ _ (search rules) (search rules) c.ceil_log2.ensures c.ceil_log2-2.ensures)

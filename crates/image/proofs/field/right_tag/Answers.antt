@@ -16,9 +16,6 @@ pub returns-then-k : goal.returns-then-k
 unfolding fields
 returns-then-k c = coming_must c.loop-i.invariant c.loop-i-test.true (λ e. c.if-k-tag.false (ap (λ (k : Kind). k.tag) c.kind_at-k.ensures ∙ e)) (ap (λ (k : Kind). k.must) (sym c.kind_at-k.ensures) ∙ c.if-k.true)
 
-pub overflow_add-i : goal.overflow_add-i
-overflow_add-i c = omega arith
-
 pub loop-i-smaller : goal.loop-i-smaller
 loop-i-smaller c = omega arith
 

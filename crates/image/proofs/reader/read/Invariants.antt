@@ -5,8 +5,8 @@ use lib.ListN.{length}
 use Prim.Native.Nat.{◌-◌}
 use Rattle.image.proofs.reader.read.Given as goal
 
-abbrev pub invariant-loop-place : goal.invariant-loop-place
-invariant-loop-place l = Along l.image l.c
+abbrev pub invariant-loop-tag : goal.invariant-loop-tag
+invariant-loop-tag l = Along l.image l.c
 
-abbrev pub decreases-loop-place : goal.decreases-loop-place
-decreases-loop-place l = length l.image - l.c.at
+abbrev pub decreases-loop-tag : goal.decreases-loop-tag
+decreases-loop-tag l = length l.image - l.c.at

@@ -1,11 +1,9 @@
-use native.Mathlib.Omega.{arith}
-use Rattle.words.specs.BytesLaws.{bytes_2}
-use native.Mathlib.Numerals.{add-one}
-use lib.ListN.{length-set}
+use Rattle.std.proofs.Common.{◌≡◌, ◌+◌, refl, sym, ◌∙◌}
+use Rattle.words.specs.Bytes.{bytes_of}
+use Rattle.words.specs.BytesLaws.{low_2, length_bytes, part_put}
 use Rattle.words.proofs.bytes.write16.Goals as goal
 
-pub bounds-out-at-2 : goal.bounds-out-at-2
-bounds-out-at-2 c = simp length-set (omega arith)
-
 pub returns : goal.returns
-returns c = rw (add-one, bytes_2)
+returns c =
+    let e : c.copy_from_slice.new.self ≡ bytes_of 2 c.args.x = c.copy_from_slice.ensures.after ∙ c.to_le_bytes.ensures ∙ sym (low_2 c.args.x) in
+    rw e (part_put _ (bytes_of 2 c.args.x) c.args.at (c.args.at + 2) (rw length_bytes refl) c.requires)
