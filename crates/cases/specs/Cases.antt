@@ -1,12 +1,11 @@
 -- 01's checked cases A to M: what each says, in one table, and one proof of all. Assumes nothing.
-use Rattle.std.specs.Prelude.{Bool, true, false, List, [], ◌∷◌, ◌≡◌, refl, ℕ, ◌-◌, ◌^◌, ◌≤◌, ◌<◌, min, leb, length, set, replicate}
+use Rattle.std.specs.Prelude.{Bool, true, false, List, [], ◌∷◌, ◌≡◌, refl, ℕ, ◌-◌, ◌^◌, ◌≤◌, ◌<◌, min, leb, length, set, replicate, Ok}
 use Rattle.std.proofs.Common.{ap, arith, ne_eqb}
 use Rattle.std.proofs.Math.Nat.{sub-zero}
 use Rattle.refusal.specs.Table.{refused, answered}
 use Rattle.refusal.specs.declared.Name.TheVariants as name
 use Rattle.words.specs.Log.{ceil_log2, first_from}
 use Rattle.words.specs.Pick.{pick}
-use Rattle.geometry.specs.declared.config.Gated.TheVariants as gated
 use Rattle.geometry.specs.Config.{maximum}
 use Rattle.geometry.specs.ConfigLaws.{config_pass}
 use Rattle.geometry.specs.Elastic.{level_length, split, lengths_of, total, padded, lay_by, elastic_plan_of, planned_report}
@@ -27,10 +26,8 @@ use Rattle.elastic.specs.StateLaws.{limits_facts}
 use Rattle.elastic.specs.Reading.{reading_of}
 use Rattle.elastic_steps.specs.Insert.{insert_of, refusal_report, insert_report}
 use Rattle.elastic_query.specs.Query.{query_of, query_report}
-use Rattle.funnel.specs.declared.table.OpenAnswer.TheVariants as opening
 use Rattle.funnel.specs.Calls.{Opens}
-use Rattle.audit_calls.specs.declared.check.Checked.{Checked}
-use Rattle.audit_calls.specs.Check.{Ended, ended, check_of, report_of}
+use Rattle.audit_calls.specs.Check.{Checked, Ended, ended, check_of, report_of}
 use Rattle.funnel.specs.OneBucket.{counts, table}
 use Rattle.cases.specs.OneBucket.{zeros, Distinct, Fills, Given, Ends}
 use Rattle.cases.specs.FillLaws.{opens, fills}
@@ -103,7 +100,7 @@ Says I =
 Says J =
     (seed cap : ℕ) → 1 ≤ cap → cap ≤ 256
     → ((old words flags : List ℕ) → length words ≡ 144 → length flags ≡ 144
-    → Opens 144 3 seed cap old words flags (opening.Table (table seed cap 0)) counts (zeros 144) (zeros 144))
+    → Opens 144 3 seed cap old words flags (Ok (table seed cap 0)) counts (zeros 144) (zeros 144))
     × ((identities : List ℕ) → Distinct identities → length identities ≤ 126 → Fills seed cap identities)
 -- "There, only slot 1 occupied: DISORDER, placed 0, slot 1", whatever marks and order hold
 Says K =
@@ -150,7 +147,7 @@ cases D = λ seed identity level probe u cap some. (
 )
 cases E = (refl, refl)
 cases F = ((λ e c some. rw (ne_eqb c 0 some, all_free e c)), refl)
-cases G = ((λ e lengths quotas some. rw (config_pass 2 e gated.Passed (omega arith) some (omega arith)) (refl, refl)), refl)
+cases G = ((λ e lengths quotas some. rw (config_pass 2 e (Ok tt) (omega arith) some (omega arith)) (refl, refl)), refl)
 cases H = λ e limits some fit one. rw (first_refused e 0 limits some fit 0x61C8864680B583EB (record { words = 1; draw = draw.Elastic 0; probe = record { 0 = 0 } }) (rw one))
 cases I = λ e seed limits identity some fit far.
     let r = two_reading (elastic_key_of seed identity) limits.range_word_cap (limits_facts e limits fit).words_some in

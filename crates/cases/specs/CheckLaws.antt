@@ -1,5 +1,5 @@
 -- The check of the funnel table in which every level is one bucket, where no slot but 0 and 1 is occupied. Assumes nothing.
-use Rattle.std.specs.Prelude.{Bool, true, false, ◌≡◌, set, Some, None}
+use Rattle.std.specs.Prelude.{Bool, true, false, ◌≡◌, set, Some, None, Ok, Err}
 use mathlib.Core.List.{List, ◌∷◌}
 use Rattle.std.proofs.Math.Path.{refl}
 use Rattle.std.proofs.Common.{◌∙◌, arith}
@@ -8,7 +8,7 @@ use Rattle.words.specs.BytesLaws.{get_d_zeros}
 use Rattle.funnel.specs.declared.table.FunnelTable.{FunnelTable}
 use Rattle.funnel.specs.declared.table.Search.TheVariants as search
 use Rattle.funnel.specs.Dirty.{dirty_at}
-use Rattle.audit_calls.specs.declared.check.Checked.TheVariants as checked
+use Rattle.audit_calls.specs.declared.check.CheckRefusal.TheVariants as checked
 use Rattle.audit.specs.Greedy.{First, first_from, unplaced, ready, taken, greedy_of}
 use Rattle.audit.specs.FirstLaws.{first_all}
 use Rattle.audit.specs.ReadyLaws.{unplaced_vacant, ready_vacant, ready_marked, ready_by}
@@ -42,7 +42,7 @@ by_two test a b c n = first_all test 0 n (λ i l h. at i)
     at (suc zero) = b
     at (suc (suc i)) = c i
 
-first_zero : (test : ℕ → Bool) (n : ℕ) → test 0 ≡ true → first_from test 0 (suc n) ≡ At 0
+first_zero : (test : ℕ → Bool) (n : ℕ) → test 0 ≡ true → first_from test 0 (suc n) ≡ Some 0
 unfolding first_from
 first_zero test n e = rw e
 
@@ -84,7 +84,7 @@ module _ (seed cap count : ℕ) (marks order : List ℕ) (given : Given cap coun
   here = table seed cap count
 
   -- "Empty: accepted, order empty"
-  pub empty : check_of here counts (two 0 0) (two 0 0) marks order ≡ ended (checked.Accepted 0) (zeros 144) order
+  pub empty : check_of here counts (two 0 0) (two 0 0) marks order ≡ ended (Ok 0) (zeros 144) order
   unfolding dirty_at
   empty =
       ends seed cap count marks order given 0 0 0 0 refl refl (zeros 144) order 0 None
@@ -95,18 +95,18 @@ module _ (seed cap count : ℕ) (marks order : List ℕ) (given : Given cap coun
 
   module _ (identity : ℕ) where
     -- "only slot 1 occupied: DISORDER, placed 0, slot 1": an insertion into the empty part would be answered at slot 0
-    pub only_second : check_of here counts (two 0 identity) (two 0 1) marks order ≡ ended (checked.Disorder 0 1) (zeros 144) order
+    pub only_second : check_of here counts (two 0 identity) (two 0 1) marks order ≡ ended (Err (checked.Disorder 0 1)) (zeros 144) order
     unfolding dirty_at first_from unplaced
     only_second =
         let found = find_vacant seed cap identity given.cap_least count (two 0 identity) (zeros 144) 0 (omega arith) (λ j l. absurd (omega arith)) refl in
         let not-ready = ready_by here counts (two 0 identity) (two 0 1) (zeros 144) 0 1 (omega arith) (λ z. omega arith) refl (search.Vacant 1 (ordinary 0)) found in
-        ends seed cap count marks order given 0 identity 0 1 refl refl (zeros 144) order 0 (At 1)
+        ends seed cap count marks order given 0 identity 0 1 refl refl (zeros 144) order 0 (Some 1)
         (greedy_stops here counts (two 0 identity) (two 0 1) 144 143 (zeros 144) order 0
         (stops seed cap count marks order given 0 identity 0 1 (zeros 144) 0 (ready_vacant here counts (two 0 identity) (two 0 1) (zeros 144) 0 0 refl) not-ready))
         refl
 
     -- "Equal identities in 0 and 1: placed 1, slot 1": with slot 0 taken, an insertion of the other is a duplicate
-    pub twice : check_of here counts (two identity identity) (two 1 1) marks order ≡ ended (checked.Disorder 1 1) (1 ∷ zeros 143) (set order 0 0)
+    pub twice : check_of here counts (two identity identity) (two 1 1) marks order ≡ ended (Err (checked.Disorder 1 1)) (1 ∷ zeros 143) (set order 0 0)
     unfolding dirty_at first_from unplaced
     twice =
         let words = two identity identity in
@@ -116,7 +116,7 @@ module _ (seed cap count : ℕ) (marks order : List ℕ) (given : Given cap coun
         let hit = find_hit seed cap identity given.cap_least count words one 0 (omega arith) (λ j l. absurd (omega arith)) (λ z. omega arith) refl in
         let is_ready = ready_by here counts words flags (zeros 144) 0 0 (omega arith) (λ z. omega arith) refl (search.Vacant 1 (ordinary 0)) found in
         let not-ready = ready_by here counts words flags one 1 1 (omega arith) (λ z. omega arith) refl (search.Hit 1 (ordinary 0)) hit in
-        ends seed cap count marks order given identity identity 1 1 refl refl one (set order 0 0) 1 (At 1)
+        ends seed cap count marks order given identity identity 1 1 refl refl one (set order 0 0) 1 (Some 1)
         (greedy_takes here counts words flags 144 143 (zeros 144) order 0 0 (first_zero (ready here counts words flags (zeros 144) 0) 143 is_ready)
         ∙ greedy_stops here counts words flags 144 142 one (set order 0 0) 1
         (stops seed cap count marks order given identity identity 1 1 one 1 (ready_marked here counts words flags one 1 0 (λ z. omega arith)) not-ready))

@@ -1,6 +1,6 @@
 -- Case J: distinct identities fill the table in which every level is one bucket, slot by slot. Assumes nothing.
 use mathlib.Core.List.{List, [], ◌∷◌, ◌++◌, append_assoc, append-nil}
-use Rattle.std.specs.Prelude.{◌≡◌, ℕ, zero, suc, ◌+◌, ◌-◌, ◌≤◌, ◌<◌, length, get_or, set, replicate}
+use Rattle.std.specs.Prelude.{◌≡◌, ℕ, zero, suc, ◌+◌, ◌-◌, ◌≤◌, ◌<◌, length, get_or, set, replicate, Ok, Err}
 use Rattle.std.proofs.Math.Path.{refl, sym, ap}
 use Rattle.std.proofs.Common.{◌∙◌, arith}
 use Rattle.std.proofs.lemmas.List.{length-replicate, replicate-append-replicate, set_at}
@@ -8,17 +8,13 @@ use Rattle.std.proofs.Math.ListN.{length-append, get_or-append}
 use Rattle.std.proofs.Math.Seq.{set-append_seam, get_or-append_seam}
 use Rattle.words.specs.BytesLaws.{get_d_zeros}
 use Rattle.funnel.specs.declared.table.FunnelTable.{FunnelTable}
-use Rattle.funnel.specs.declared.table.Insertion.{Insertion}
-use Rattle.funnel.specs.declared.table.Insertion.TheVariants as insertion
-use Rattle.funnel.specs.declared.table.InsertAnswer.TheVariants as inserted
+use Rattle.funnel.specs.declared.table.InsertRefusal.TheVariants as insertion
 use Rattle.funnel.specs.declared.table.Search.TheVariants as search
 use Rattle.funnel.specs.Valid.{Valid}
 use Rattle.funnel.specs.Fresh.{State}
-use Rattle.funnel.specs.Insert.{done, insert_of}
+use Rattle.funnel.specs.Insert.{Insertion, reached, done, insert_of}
 use Rattle.funnel.proofs.InsertLaws.{insert_inserted, insert_spent_vacant, insert_duplicate}
-use Rattle.geometry.specs.declared.config.Gated.TheVariants.{Passed}
 use Rattle.geometry.specs.FunnelGateLaws.{plan_passes}
-use Rattle.funnel.specs.declared.table.OpenAnswer.TheVariants as opening
 use Rattle.funnel.specs.Calls.{Opens, insertions}
 use Rattle.funnel.specs.CallLaws.{limits_pass, lengths_pass, open_gate_later, valid_gate, insert_passed}
 use Rattle.funnel.specs.Search.{find_of}
@@ -50,12 +46,12 @@ flags_more k m = set_at (replicate k 1) 0 (zeros m) 1 k (length-replicate {A = �
 module _ (seed cap : ℕ) (least : 1 ≤ cap) (most : cap ≤ 256) where
   -- the opening
   pub opens : (old words flags : List ℕ) → length words ≡ 144 → length flags ≡ 144
-      → Opens 144 3 seed cap old words flags (opening.Table (table seed cap 0)) counts (zeros 144) (zeros 144)
+      → Opens 144 3 seed cap old words flags (Ok (table seed cap 0)) counts (zeros 144) (zeros 144)
   unfolding Opens
   opens old words flags w f =
       let gate =
-      open_gate_later 144 3 cap (length words) (length flags) _ Passed Passed (sym (plan_passes is_plan_lem)) refl (lengths_pass 144 (length words) (length flags) Passed w f)
-      (limits_pass cap Passed (λ z. omega arith) most) in
+      open_gate_later 144 3 cap (length words) (length flags) _ (Ok tt) (Ok tt) (sym (plan_passes is_plan_lem)) refl (lengths_pass 144 (length words) (length flags) (Ok tt) w f)
+      (limits_pass cap (Ok tt) (λ z. omega arith) most) in
       (sym gate, is_plan_lem, refl, refl, refl)
 
   module _ (identities : List ℕ) (few : length identities ≤ 126) where
@@ -75,7 +71,7 @@ module _ (seed cap : ℕ) (least : 1 ≤ cap) (most : cap ≤ 256) where
 
     -- past the gate the call is the insertion
     answers : (identity : ℕ) (answer : Insertion) (t : FunnelTable) (words flags : List ℕ) → done answer t words flags ≡ insert_of now.table counts now.words now.flags identity
-        → called now identity ≡ insertions (inserted.Done (record { answer = answer; table = t })) words flags
+        → called now identity ≡ insertions (Ok (record { answer = answer; table = t })) words flags
     answers identity answer t words flags e =
         sym (insert_passed now.table counts now.words now.flags _ (sym (valid_gate valid)) identity (record { answer = answer; table = t }) words flags refl e)
 
@@ -96,7 +92,7 @@ module _ (seed cap : ℕ) (least : 1 ≤ cap) (most : cap ≤ 256) where
     -- another identity, with room: the next slot
     inserts : (identity : ℕ) → Other identities identity → length identities < 126
         → called now identity
-        ≡ insertions (inserted.Done (record { answer = insertion.Inserted (length identities + 1) (ordinary (length identities)); table = table seed cap (length identities + 1) }))
+        ≡ insertions (Ok (record { answer = Ok (reached (length identities + 1) (ordinary (length identities))); table = table seed cap (length identities + 1) }))
         (set now.words (length identities) identity) (set now.flags (length identities) 1)
     inserts identity other room =
         answers identity _ _ _ _
@@ -105,7 +101,7 @@ module _ (seed cap : ℕ) (least : 1 ≤ cap) (most : cap ≤ 256) where
 
     -- and without
     exhausts : (identity : ℕ) → Other identities identity → length identities ≡ 126
-        → called now identity ≡ insertions (inserted.Done (record { answer = insertion.Exhausted (length identities + 1); table = now.table })) now.words now.flags
+        → called now identity ≡ insertions (Ok (record { answer = Err (insertion.Exhausted (length identities + 1)); table = now.table })) now.words now.flags
     exhausts identity other full =
         answers identity _ _ _ _
         (insert_spent_vacant now.table (length identities) counts now.words now.flags identity (omega arith) (length identities + 1) (ordinary (length identities))
@@ -113,7 +109,7 @@ module _ (seed cap : ℕ) (least : 1 ≤ cap) (most : cap ≤ 256) where
 
     -- a member
     repeats : Distinct identities → (i : ℕ) → i < length identities
-        → called now (get_or identities i 0) ≡ insertions (inserted.Done (record { answer = insertion.Duplicate (i + 1) (ordinary i); table = now.table })) now.words now.flags
+        → called now (get_or identities i 0) ≡ insertions (Ok (record { answer = Err (insertion.Duplicate (i + 1) (ordinary i)); table = now.table })) now.words now.flags
     repeats distinct i within =
         answers (get_or identities i 0) _ _ _ _
         (insert_duplicate now.table (length identities) counts now.words now.flags (get_or identities i 0) (i + 1) (ordinary i)

@@ -1,14 +1,12 @@
 -- The funnel table of 144 slots and reserve 1/8, in which every level is one bucket: its ordinary places, what it holds after
 -- some insertions, and what 01 says of it. Assumes nothing.
-use Rattle.std.specs.Prelude.{List, [], ◌∷◌, ◌++◌, ◌≡◌, ℕ, zero, suc, ◌+◌, ◌-◌, ◌/◌, ◌%◌, ◌≤◌, ◌<◌, length, get_or, replicate}
+use Rattle.std.specs.Prelude.{List, [], ◌∷◌, ◌++◌, ◌≡◌, ℕ, zero, suc, ◌+◌, ◌-◌, ◌/◌, ◌%◌, ◌≤◌, ◌<◌, length, get_or, replicate, Ok, Err}
 use Rattle.words.specs.declared.place.Place.{Place}
 use Rattle.words.specs.declared.place.Place.TheVariants as place
 use Rattle.refusal.specs.Table.{Report, answered, refused}
 use Rattle.refusal.specs.declared.Name.TheVariants as name
 use Rattle.funnel.specs.declared.table.FunnelTable.{FunnelTable}
-use Rattle.funnel.specs.declared.table.InsertAnswer.{InsertAnswer}
-use Rattle.funnel.specs.declared.table.InsertAnswer.TheVariants as inserted
-use Rattle.funnel.specs.Calls.{Insertions, insert_answer_of, inserted_report, place_values}
+use Rattle.funnel.specs.Calls.{InsertAnswer, Insertions, insert_answer_of, inserted_report, place_values}
 use Rattle.funnel.specs.Fresh.{State, fresh}
 use Rattle.funnel.specs.OneBucket.{plan, counts, table}
 use Rattle.audit_calls.specs.Check.{Ended, report_of}
@@ -30,8 +28,8 @@ ordinaries from (suc k) = ordinary from ∷ ordinaries (suc from) k
 
 -- the table after a call
 abbrev pub table_after : FunnelTable → InsertAnswer → FunnelTable
-table_after t (inserted.Gate g) = t
-table_after t (inserted.Done step) = step.table
+table_after t (Err g) = t
+table_after t (Ok step) = step.table
 
 abbrev pub called : State → ℕ → Insertions
 called s identity = insert_answer_of s.table counts s.words s.flags identity

@@ -1,6 +1,6 @@
 -- Laws of the funnel table in which every level is one bucket: its plan, and its paths, which start with the ordinary slots in order,
 -- whatever the seed, the word cap and the identity. Assumes nothing.
-use Rattle.std.specs.Prelude.{List, ◌∷◌, ◌++◌, ◌≡◌, length, take, get_or, replicate}
+use Rattle.std.specs.Prelude.{List, ◌∷◌, ◌++◌, ◌≡◌, length, take, get_or, replicate, Ok}
 use Rattle.std.proofs.Common.{append_assoc, sym, ◌∙◌, lit≤}
 use Rattle.std.proofs.Math.Path.{refl, ap}
 use Prim.Native.Nat.{ℕ, zero, suc, ◌+◌, ◌-◌, ◌*◌, ◌/◌, ◌%◌, ◌≤◌, ◌<◌}
@@ -21,8 +21,7 @@ use Rattle.geometry.specs.Funnel.{IsPlan}
 use Rattle.geometry.specs.FunnelExist.{plan_with, plan_is}
 use Rattle.probe.specs.declared.counter.Domain.{Domain}
 use Rattle.probe.specs.declared.counter.Domain.TheVariants as domain
-use Rattle.probe.specs.declared.range.Drawn.TheVariants.{Index}
-use Rattle.probe.specs.Range.{funnel_draw_of}
+use Rattle.probe.specs.Range.{indexed, funnel_draw_of}
 use Rattle.probe.specs.RangeLaws.{domain_drawn}
 use Rattle.probe.specs.ShiftLaws.{draw_one}
 use Rattle.funnel.specs.declared.table.Search.TheVariants as search
@@ -107,7 +106,7 @@ level_start_lem level h = rw (take-append-le {A = ℕ} level (replicate 22 1) (r
 -- ---- draws
 
 -- of one value no word is rejected, and the index is 0
-funnel_one : (seed identity : ℕ) (d : Domain) (probe cap : ℕ) → 0 < cap → funnel_draw_of seed identity d probe 1 cap ≡ Index 0 1
+funnel_one : (seed identity : ℕ) (d : Domain) (probe cap : ℕ) → 0 < cap → funnel_draw_of seed identity d probe 1 cap ≡ Ok (indexed 0 1)
 unfolding funnel_draw_of
 funnel_one seed identity d probe cap h = domain_drawn _ _ d probe 1 cap 0 1 (draw_one _ _ _ cap h)
 

@@ -1,5 +1,5 @@
 -- Laws of readings, searches and scans. Assumes nothing.
-use Rattle.std.specs.Prelude.{Bool, List, ◌≡◌, get_or}
+use Rattle.std.specs.Prelude.{Bool, List, ◌≡◌, get_or, Some, None, Ok, Err}
 use Rattle.std.proofs.Math.Bool.{true, false}
 use Rattle.std.proofs.Math.Path.{refl, sym, ap}
 use Rattle.std.proofs.Common.{◌∙◌}
@@ -14,15 +14,11 @@ use Rattle.words.specs.Pick.{pick}
 use Rattle.geometry.specs.Config.{Configured}
 use Rattle.geometry.specs.Elastic.{levels_of, length_at, offset_at, level_length}
 use Rattle.geometry.specs.ElasticLaws.{levels_facts, offset_at_lem, length_at_lem, length_pos, level_within}
-use Rattle.probe.specs.Range.{keyed_draw_of}
+use Rattle.probe.specs.Range.{indexed, Drawn, keyed_draw_of}
 use Rattle.probe.specs.RangeLaws.{keyed_draw_index, Drew}
-use Rattle.probe.specs.declared.range.Drawn.{Drawn}
-use Rattle.probe.specs.declared.range.Drawn.TheVariants as drawn
 use Rattle.elastic.specs.declared.route.Reading.{Reading}
-use Rattle.elastic.specs.declared.route.Reading.TheVariants as reading
-use Rattle.elastic.specs.declared.route.Sought.TheVariants as sought
-use Rattle.elastic.specs.declared.route.Located.TheVariants as located
-use Rattle.elastic.specs.Reading.{reading_by, reading_of, vacant_at, holds_at, seek_by, seek_from, seek_of, first_from, first_of, alike, Without, Probed, Read}
+use Rattle.elastic.specs.declared.route.Vacant.{Vacant}
+use Rattle.elastic.specs.Reading.{read_slot, Routed, vacant, Sought, Located, reading_by, reading_of, vacant_at, holds_at, seek_by, seek_from, seek_of, first_from, first_of, Without, Probed, Read}
 
 -- ---- levels that can be probed
 
@@ -55,27 +51,30 @@ module _ {n last cap level : ℕ} (p : Probed n last cap level) where
 
 module _ {n last cap level : ℕ} (p : Probed n last cap level) (key probe o l : ℕ) (eo : o ≡ offset_at n level) (el : l ≡ length_at n level) (d : Drawn)
     (ed : d ≡ keyed_draw_of key level probe l cap) where
-  pub reading_index : (i w : ℕ) → d ≡ drawn.Index i w → reading.Slot (o + i) w ≡ reading_of n key cap level probe
+  pub reading_index : (i w : ℕ) → d ≡ Ok (indexed i w) → Ok (read_slot (o + i) w) ≡ reading_of n key cap level probe
   unfolding reading_of
   reading_index i w h = sym (rw (← el, ← ed, h, ← eo))
 
-  pub reading_refused : (r : RangeRefusal) → d ≡ drawn.Refused r → reading.Refused r ≡ reading_of n key cap level probe
+  pub reading_refused : (r : RangeRefusal) → d ≡ Err r → Err r ≡ reading_of n key cap level probe
   unfolding reading_of
   reading_refused r h = sym (rw (← el, ← ed, h))
 
   -- the index lies within the level
-  pub index_drew : (i w : ℕ) → d ≡ drawn.Index i w → Drew l cap i w
+  pub index_drew : (i w : ℕ) → d ≡ Ok (indexed i w) → Drew l cap i w
   index_drew i w h = keyed_draw_index key level probe l cap i w (omega (arith, el, probed_some p)) (sym ed ∙ h)
 
-pub reading_read : {n last cap level : ℕ} → Probed n last cap level → (key probe s w : ℕ) → reading_of n key cap level probe ≡ reading.Slot s w → Read n cap level s w
+pub reading_read : {n last cap level : ℕ} → Probed n last cap level → (key probe s w : ℕ) → reading_of n key cap level probe ≡ Ok (read_slot s w) → Read n cap level s w
 unfolding reading_of
 reading_read {n} {last} {cap} {level} p key probe s w h = go (keyed_draw_of key level probe (length_at n level) cap) refl h
   where
-    go : (d : Drawn) → d ≡ keyed_draw_of key level probe (length_at n level) cap → reading_by (offset_at n level) d ≡ reading.Slot s w → Read n cap level s w
-    go (drawn.Refused r) e q = let z : ◌≡◌ {A = ℕ} 0 1 = cc in absurd (omega arith)
-    go (drawn.Index i u) e q =
-        let a : offset_at n level + i ≡ s = cc in
-        let b : u ≡ w = cc in
+    go : (d : Drawn) → d ≡ keyed_draw_of key level probe (length_at n level) cap → reading_by (offset_at n level) d ≡ Ok (read_slot s w) → Read n cap level s w
+    go (Err r) e q = let z : ◌≡◌ {A = ℕ} 0 1 = cc in absurd (omega arith)
+    go (Ok drew) e q =
+        let i = drew.index in
+        let u = drew.words in
+        let both : read_slot (offset_at n level + drew.index) drew.words ≡ read_slot s w = cc in
+        let a : offset_at n level + i ≡ s = ap (λ (x : Reading). x.slot) both in
+        let b : u ≡ w = ap (λ (x : Reading). x.words) both in
         let f : Drew (length_at n level) cap i u = keyed_draw_index key level probe (length_at n level) cap i u (probed_some p) (sym e) in
         record { from = omega arith; to = omega (arith, f.below); below = omega (arith, f.below, probed_within p); some = omega (arith, f.some); most = omega (arith, f.most) }
 
@@ -93,12 +92,12 @@ module _ (n key cap : ℕ) (fs : List ℕ) (level : ℕ) where
     one : tries - probe ≡ suc (tries - (probe + 1))
     one = omega arith
 
-    pub sought_refused : (r : RangeRefusal) → reading_of n key cap level probe ≡ reading.Refused r → sought.Refused r ≡ seek_of n key cap fs level tries
+    pub sought_refused : (r : RangeRefusal) → reading_of n key cap level probe ≡ Err r → Err r ≡ seek_of n key cap fs level tries
     unfolding seek_from
     sought_refused r e = sym (k.rest ∙ rw (one, e))
 
-    module _ (s w : ℕ) (e : reading_of n key cap level probe ≡ reading.Slot s w) where
-      pub sought_vacant : get_or fs s 0 ≡ 0 → sought.Vacant s (record { 0 = probe }) ≡ seek_of n key cap fs level tries
+    module _ (s w : ℕ) (e : reading_of n key cap level probe ≡ Ok (read_slot s w)) where
+      pub sought_vacant : get_or fs s 0 ≡ 0 → Ok (Some (vacant s (record { 0 = probe }))) ≡ seek_of n key cap fs level tries
       unfolding seek_from
       sought_vacant v = sym (k.rest ∙ rw (one, e, eq-eqb (get_or fs s 0) 0 v))
 
@@ -106,7 +105,7 @@ module _ (n key cap : ℕ) (fs : List ℕ) (level : ℕ) where
       unfolding seek_from
       sought_on v = record { rest = k.rest ∙ rw (one, e, ne_eqb (get_or fs s 0) 0 v) }
 
-  pub sought_end : (tries probe : ℕ) → Sought-from tries probe → tries ≤ probe → sought.Passed ≡ seek_of n key cap fs level tries
+  pub sought_end : (tries probe : ℕ) → Sought-from tries probe → tries ≤ probe → Ok None ≡ seek_of n key cap fs level tries
   unfolding seek_from
   sought_end tries probe k h = let z : tries - probe ≡ 0 = omega arith in sym (k.rest ∙ rw z)
 
@@ -119,25 +118,29 @@ pub record Vacancy (n cap level : ℕ) (fs : List ℕ) (tries s probe : ℕ) : T
   pub in_time : probe < tries
 
 pub seek_vacant : {n last cap level : ℕ} → Probed n last cap level → (key : ℕ) (fs : List ℕ) (tries s : ℕ) (probe : LogicalProbe)
-    → seek_of n key cap fs level tries ≡ sought.Vacant s probe → Vacancy n cap level fs tries s probe.0
+    → seek_of n key cap fs level tries ≡ Ok (Some (vacant s probe)) → Vacancy n cap level fs tries s probe.0
 unfolding seek_from
 seek_vacant {n} {last} {cap} {level} reached key fs tries s probe h = go tries 0 (omega arith) h
   where
-    step : (t q : ℕ) → q + suc t ≤ tries → (r : Reading) → reading_of n key cap level q ≡ r → seek_by fs q r (seek_from n key cap fs level t (q + 1)) ≡ sought.Vacant s probe
-        → (seek_from n key cap fs level t (q + 1) ≡ sought.Vacant s probe → Vacancy n cap level fs tries s probe.0) → Vacancy n cap level fs tries s probe.0
-    step t q l (reading.Refused r) e g later = let z : ◌≡◌ {A = ℕ} 0 1 = cc in absurd (omega arith)
-    step t q l (reading.Slot u w) e g later = by (vacant_at fs u) refl g
+    step : (t q : ℕ) → q + suc t ≤ tries → (r : Routed) → reading_of n key cap level q ≡ r → seek_by fs q r (seek_from n key cap fs level t (q + 1)) ≡ Ok (Some (vacant s probe))
+        → (seek_from n key cap fs level t (q + 1) ≡ Ok (Some (vacant s probe)) → Vacancy n cap level fs tries s probe.0) → Vacancy n cap level fs tries s probe.0
+    step t q l (Err r) e g later = let z : ◌≡◌ {A = ℕ} 0 1 = cc in absurd (omega arith)
+    step t q l (Ok reading) e g later = by (vacant_at fs reading.slot) refl g
       where
-        by : (x : Bool) → vacant_at fs u ≡ x → pick x (sought.Vacant u (record { 0 = q })) (seek_from n key cap fs level t (q + 1)) ≡ sought.Vacant s probe → Vacancy n cap level fs tries s probe.0
+        u : ℕ
+        u = reading.slot
+
+        by : (x : Bool) → vacant_at fs u ≡ x → pick {A = Sought} x (Ok (Some (vacant u (record { 0 = q })))) (seek_from n key cap fs level t (q + 1)) ≡ Ok (Some (vacant s probe)) → Vacancy n cap level fs tries s probe.0
         by false d g = later g
         by true d g =
-            let a : u ≡ s = cc in
-            let p : ◌≡◌ {A = LogicalProbe} (record { 0 = q }) probe = cc in
+            let both : vacant u (record { 0 = q }) ≡ vacant s probe = cc in
+            let a : u ≡ s = ap (λ (x : Vacant). x.slot) both in
+            let p : ◌≡◌ {A = LogicalProbe} (record { 0 = q }) probe = ap (λ (x : Vacant). x.probe) both in
             let b : q ≡ probe.0 = ap (λ (x : LogicalProbe). x.0) p in
-            let f = reading_read reached key q u w e in
+            let f = reading_read reached key q u reading.words e in
             record { from = omega (arith, f.from); to = omega (arith, f.to); below = omega (arith, f.below); vacant = ap (λ (x : ℕ). get_or fs x 0) (sym a) ∙ eqb-true _ _ d; in_time = omega arith }
 
-    go : (t q : ℕ) → q + t ≤ tries → seek_from n key cap fs level t q ≡ sought.Vacant s probe → Vacancy n cap level fs tries s probe.0
+    go : (t q : ℕ) → q + t ≤ tries → seek_from n key cap fs level t q ≡ Ok (Some (vacant s probe)) → Vacancy n cap level fs tries s probe.0
     go zero q l g = let z : ◌≡◌ {A = ℕ} 0 1 = cc in absurd (omega arith)
     go (suc t) q l g = step t q l (reading_of n key cap level q) refl g (λ d. go t (q + 1) (omega arith) d)
 
@@ -159,28 +162,6 @@ holds_other ws fs id slot h = go (vacant_at fs slot)
     go true = refl
     go false = ne_eqb (get_or ws slot 0) id h
 
--- one or none, by whether two words are equal
-module _ (a b : ℕ) where
-  pub alike_same : a ≡ b → 1 ≡ alike a b
-  unfolding alike
-  alike_same h = sym (rw (eq-eqb a b h))
-
-  pub alike_other : (a ≡ b → ⊥) → 0 ≡ alike a b
-  unfolding alike
-  alike_other n = sym (rw (ne_eqb a b n))
-
-  module _ (r : ℕ) (e : r ≡ alike a b) where
-    pub alike_most : r ≤ 1
-    unfolding alike
-    alike_most = go (eqb a b) e
-      where
-        go : (x : Bool) → r ≡ pick x 1 0 → r ≤ 1
-        go true h = omega arith
-        go false h = omega arith
-
-    pub alike_none : r ≡ 0 → a ≡ b → ⊥
-    alike_none z h = let w = alike_same h in omega arith
-
 pub without_start : (ws : List ℕ) (id : ℕ) → Without ws id 0
 without_start ws id = record { none = λ j h. absurd (omega arith) }
 
@@ -195,13 +176,13 @@ without_more ws id i k h = record { none = λ j l. go j l (eqb j i) refl }
         lower d = omega arith
 
 module _ (ws fs : List ℕ) (id : ℕ) where
-  pub first_none : (tries slot : ℕ) → ((j : ℕ) → slot ≤ j → j < slot + tries → get_or ws j 0 ≡ id → ⊥) → first_from ws fs id tries slot ≡ located.Nowhere
+  pub first_none : (tries slot : ℕ) → ((j : ℕ) → slot ≤ j → j < slot + tries → get_or ws j 0 ≡ id → ⊥) → first_from ws fs id tries slot ≡ None
   unfolding first_from
   first_none zero slot h = refl
   first_none (suc tries) slot h =
       rw (holds_other ws fs id slot (h slot (omega arith) (omega arith))) (first_none tries (slot + 1) (λ j a b. h j (omega arith) (omega arith)))
 
-  pub first_without : (i : ℕ) → Without ws id i → length ws ≤ i → located.Nowhere ≡ first_of ws fs id
+  pub first_without : (i : ℕ) → Without ws id i → length ws ≤ i → None ≡ first_of ws fs id
   unfolding first_of
   first_without i k h = sym (first_none (length ws) 0 (λ j a b. k.none j (omega arith)))
 
@@ -217,7 +198,7 @@ module _ (ws fs : List ℕ) (id : ℕ) where
     one_more : length ws - i ≡ suc (length ws - (i + 1))
     one_more = omega arith
 
-    pub scanned_here : holds_at ws fs id i ≡ true → located.At i ≡ first_of ws fs id
+    pub scanned_here : holds_at ws fs id i ≡ true → Some i ≡ first_of ws fs id
     unfolding first_from
     scanned_here e = sym (k.rest ∙ rw (one_more, e))
 
@@ -225,7 +206,7 @@ module _ (ws fs : List ℕ) (id : ℕ) where
     unfolding first_from
     scanned_on e = record { rest = k.rest ∙ rw (one_more, e) }
 
-  pub scanned_end : (i : ℕ) → Scanned i → length ws ≤ i → located.Nowhere ≡ first_of ws fs id
+  pub scanned_end : (i : ℕ) → Scanned i → length ws ≤ i → None ≡ first_of ws fs id
   unfolding first_from
   scanned_end i k h = let z : length ws - i ≡ 0 = omega arith in sym (k.rest ∙ rw z)
 
@@ -235,13 +216,13 @@ module _ (ws fs : List ℕ) (id : ℕ) where
     pub holds : holds_at ws fs id s ≡ true
     pub first : (j : ℕ) → j < s → holds_at ws fs id j ≡ false
 
-  pub first_is : (s : ℕ) → first_of ws fs id ≡ located.At s → IsFirst s
+  pub first_is : (s : ℕ) → first_of ws fs id ≡ Some s → IsFirst s
   unfolding first_of first_from
   first_is s h = go (length ws) 0 (omega arith) (λ j l. absurd (omega arith)) h
     where
       step : (t i : ℕ) → i + suc t ≡ length ws → ((j : ℕ) → j < i → holds_at ws fs id j ≡ false) → (x : Bool) → holds_at ws fs id i ≡ x
-          → pick x (located.At i) (first_from ws fs id t (i + 1)) ≡ located.At s
-          → (((j : ℕ) → j < i + 1 → holds_at ws fs id j ≡ false) → first_from ws fs id t (i + 1) ≡ located.At s → IsFirst s) → IsFirst s
+          → pick {A = Located} x (Some i) (first_from ws fs id t (i + 1)) ≡ Some s
+          → (((j : ℕ) → j < i + 1 → holds_at ws fs id j ≡ false) → first_from ws fs id t (i + 1) ≡ Some s → IsFirst s) → IsFirst s
       step t i l before true e g later =
           let a : i ≡ s = cc in
           record { below = omega arith; holds = ap (holds_at ws fs id) (sym a) ∙ e; first = λ j m. before j (omega arith) }
@@ -254,6 +235,6 @@ module _ (ws fs : List ℕ) (id : ℕ) where
               lower : (j ≡ i → ⊥) → j < i
               lower q = omega arith
 
-      go : (t i : ℕ) → i + t ≡ length ws → ((j : ℕ) → j < i → holds_at ws fs id j ≡ false) → first_from ws fs id t i ≡ located.At s → IsFirst s
+      go : (t i : ℕ) → i + t ≡ length ws → ((j : ℕ) → j < i → holds_at ws fs id j ≡ false) → first_from ws fs id t i ≡ Some s → IsFirst s
       go zero i l before g = let z : ◌≡◌ {A = ℕ} 0 1 = cc in absurd (omega arith)
       go (suc t) i l before g = step t i l before (holds_at ws fs id i) refl g (λ b d. go t (i + 1) (omega arith) b d)

@@ -1,5 +1,5 @@
 -- What the tests and the opening of an elastic table report: refusals by name and in their order. Assumes nothing.
-use Rattle.std.specs.Prelude.{Bool, not, List, [], ◌≡◌, ℕ, eqb, ltb, length}
+use Rattle.std.specs.Prelude.{Bool, not, List, [], ◌≡◌, ℕ, eqb, ltb, length, Ok}
 use Rattle.std.proofs.Math.Bool.{true, false}
 use Rattle.std.proofs.Math.Path.{refl}
 use Rattle.refusal.specs.Table.{name_of, answered, refused}
@@ -7,7 +7,6 @@ use Rattle.refusal.specs.declared.Gate.TheVariants as gate
 use Rattle.refusal.specs.declared.Name.TheVariants as name
 use Rattle.words.specs.Pick.{pick}
 use Rattle.geometry.specs.Config.{refuse_if, config_then, gated_report}
-use Rattle.geometry.specs.declared.config.Gated.TheVariants.{Passed}
 use Rattle.elastic.specs.declared.state.Limits.{Limits}
 use Rattle.elastic.specs.State.{limits_fit, buffers_fit, demand, setting_gate, open_gate, open_by, open_of, open_report}
 
@@ -20,7 +19,7 @@ module _ (n e : ℕ) (limits : Limits) where
   state_report fits = go (ltb n 2) (eqb e 0) (ltb 4294967296 n) (limits_fit e limits) fits
     where
       go : (small zero large within fits : Bool)
-          → gated_report (demand (demand (refuse_if small gate.N (refuse_if zero gate.ZeroExp (refuse_if large gate.Size Passed))) within gate.Limits) fits gate.State)
+          → gated_report (demand (demand (refuse_if small gate.N (refuse_if zero gate.ZeroExp (refuse_if large gate.Size (Ok tt)))) within gate.Limits) fits gate.State)
           ≡ pick small (refused name.N []) (pick zero (refused name.ZeroExp []) (pick large (refused name.Size [])
           (pick (not within) (refused name.Limits []) (pick (not fits) (refused name.State []) (answered [])))))
       go true zero large within fits = refl
@@ -36,9 +35,9 @@ module _ (n e : ℕ) (limits : Limits) where
   open_report_lem seed cs ws fs = go (ltb n 2) (eqb e 0) (ltb 4294967296 n) (limits_fit e limits) (buffers_fit n (length ws) (length fs))
     where
       go : (small zero large within fits : Bool)
-          → open_report (open_by (demand (demand (refuse_if small gate.N (refuse_if zero gate.ZeroExp (refuse_if large gate.Size Passed))) within gate.Limits) fits gate.State)
+          → open_report (open_by (demand (demand (refuse_if small gate.N (refuse_if zero gate.ZeroExp (refuse_if large gate.Size (Ok tt)))) within gate.Limits) fits gate.State)
           n e seed limits cs ws fs).answer
-          ≡ gated_report (demand (demand (refuse_if small gate.N (refuse_if zero gate.ZeroExp (refuse_if large gate.Size Passed))) within gate.Limits) fits gate.State)
+          ≡ gated_report (demand (demand (refuse_if small gate.N (refuse_if zero gate.ZeroExp (refuse_if large gate.Size (Ok tt)))) within gate.Limits) fits gate.State)
       go true zero large within fits = refl
       go false true large within fits = refl
       go false false true within fits = refl

@@ -1,17 +1,13 @@
 -- The state of an elastic table: the tests 1 to 3, 6 and 7, and the opening. Assumes nothing.
-use Rattle.std.specs.Prelude.{Bool, true, false, List, [], ◌∷◌, ◌≡◌, ℕ, ◌+◌, ◌*◌, ◌≤◌, ◌<◌, min, eqb, leb, length, get_or, replicate}
+use Rattle.std.specs.Prelude.{Bool, true, false, List, [], ◌∷◌, ◌≡◌, ℕ, ◌+◌, ◌*◌, ◌≤◌, ◌<◌, min, eqb, leb, length, get_or, replicate, Result, Ok, Err}
 use Rattle.refusal.specs.Table.{name_of, Report, answered, refused}
 use Rattle.refusal.specs.declared.Gate.{Gate}
 use Rattle.refusal.specs.declared.Gate.TheVariants as gate
-use Rattle.geometry.specs.declared.config.Gated.{Gated}
-use Rattle.geometry.specs.declared.config.Gated.TheVariants.{Passed, Refused}
 use Rattle.geometry.specs.declared.elastic.ElasticPlan.{ElasticPlan}
-use Rattle.geometry.specs.Config.{Configured, config_gate, maximum}
+use Rattle.geometry.specs.Config.{Gated, Configured, config_gate, maximum}
 use Rattle.geometry.specs.Elastic.{both, total, levels_of, lengths_of, split, plan_of, is_plan_of}
 use Rattle.elastic.specs.declared.state.Limits.{Limits}
 use Rattle.elastic.specs.declared.state.State.{State}
-use Rattle.elastic.specs.declared.state.Opened.{Opened}
-use Rattle.elastic.specs.declared.state.Opened.TheVariants as opening
 
 -- a cap from 1 to its largest
 abbrev pub cap_fits : (cap most : ℕ) → Bool
@@ -53,9 +49,9 @@ state_fits n e plan count cs words flags =
 
 -- a test after those that passed, with the refusal where it fails
 abbrev pub demand : Gated → Bool → Gate → Gated
-demand (Refused g) ok gate = Refused g
-demand Passed true gate = Passed
-demand Passed false gate = Refused gate
+demand (Err g) ok gate = Err g
+demand (Ok _) true gate = Ok tt
+demand (Ok _) false gate = Err gate
 
 -- "Order: 1 to 7 by number"
 unfoldable pub setting_gate : (n e : ℕ) → Limits → Gated
@@ -67,6 +63,10 @@ open_gate n e limits words flags = demand (setting_gate n e limits) (buffers_fit
 unfoldable pub gate_of : State → List ℕ → (words flags : ℕ) → Gated
 gate_of st cs words flags =
     demand (setting_gate st.n st.e st.limits) (state_fits st.n st.e st.plan st.count cs words flags) gate.State
+
+-- what an opening answers: a state, or the refusal of its gate
+abbrev pub Opened : Type 0
+Opened = Result State Gate
 
 -- what an opening leaves: its answer, and the three lent lists
 pub record OpenDone : Type 0 where
@@ -84,17 +84,17 @@ fresh_of n e seed limits = record { n = n; e = e; seed = seed; limits = limits; 
 
 -- "Opening zeroes both; that is a fresh table"
 unfoldable pub open_by : Gated → (n e seed : ℕ) → Limits → List ℕ → List ℕ → List ℕ → OpenDone
-open_by (Refused g) n e seed limits cs ws fs = opened (opening.Refused g) cs ws fs
-open_by Passed n e seed limits cs ws fs =
-    opened (opening.Open (fresh_of n e seed limits)) (replicate (length cs) 0) (replicate (length ws) 0) (replicate (length fs) 0)
+open_by (Err g) n e seed limits cs ws fs = opened (Err g) cs ws fs
+open_by (Ok _) n e seed limits cs ws fs =
+    opened (Ok (fresh_of n e seed limits)) (replicate (length cs) 0) (replicate (length ws) 0) (replicate (length fs) 0)
 
 unfoldable pub open_of : (n e seed : ℕ) → Limits → List ℕ → List ℕ → List ℕ → OpenDone
 open_of n e seed limits cs ws fs = open_by (open_gate n e limits (length ws) (length fs)) n e seed limits cs ws fs
 
 -- number and values of an answer
 unfoldable pub open_report : Opened → Report
-open_report (opening.Open st) = answered []
-open_report (opening.Refused g) = refused (name_of g) []
+open_report (Ok st) = answered []
+open_report (Err g) = refused (name_of g) []
 
 -- ---- what the tests say once passed
 

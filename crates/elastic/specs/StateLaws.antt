@@ -1,5 +1,5 @@
 -- Laws of the state: how its tests are made, and what they say once passed. Assumes nothing.
-use Rattle.std.specs.Prelude.{Bool, true, List, [], ◌∷◌, ◌≡◌, refl, eqb, leb, length, get_or, replicate}
+use Rattle.std.specs.Prelude.{Bool, true, List, [], ◌∷◌, ◌≡◌, refl, eqb, leb, length, get_or, replicate, Ok, Err}
 use Rattle.std.proofs.Math.Bool.{false}
 use Rattle.std.proofs.Math.Path.{sym}
 use Rattle.std.proofs.Common.{ap, le-div_iff_mul-le}
@@ -7,15 +7,12 @@ use Prim.Native.Nat.{ℕ, zero, suc, ◌+◌, ◌-◌, ◌*◌, ◌/◌, ◌≤�
 use native.Mathlib.Omega.{arith}
 use borrow.Author.Tests.{eq-eqb, ne_eqb, le-leb, lt-leb, eqb-true, eqb-false, leb-true, leb-false}
 use Rattle.refusal.specs.declared.Gate.{Gate}
-use Rattle.geometry.specs.declared.config.Gated.{Gated}
-use Rattle.geometry.specs.declared.config.Gated.TheVariants.{Passed, Refused}
-use Rattle.geometry.specs.Config.{Configured, maximum}
+use Rattle.geometry.specs.Config.{Gated, Configured, maximum}
 use Rattle.geometry.specs.ConfigLaws.{config_gate_facts}
 use Rattle.geometry.specs.Elastic.{both, total, levels_of, lengths_of, split, next_length, level_length}
 use Rattle.geometry.specs.ElasticLaws.{plan_facts}
 use Rattle.elastic.specs.declared.state.Limits.{Limits}
 use Rattle.elastic.specs.declared.state.State.{State}
-use Rattle.elastic.specs.declared.state.Opened.TheVariants as opening
 use Rattle.elastic.specs.State.{cap_fits, factor_fits, limits_fit, counts_within, counts_fit, state_fits, demand, setting_gate, open_gate, gate_of, OpenDone, opened, fresh_of, open_by, open_of, LimitsFacts, Valid}
 
 -- ---- tests one after the other
@@ -59,20 +56,20 @@ eqb_same a b c d f g = go (eqb a b) refl
 
 -- ---- a test after those that passed
 
-pub demand_refused : (before : Gated) (ok : Bool) (g h : Gate) → before ≡ Refused g → Refused g ≡ demand before ok h
+pub demand_refused : (before : Gated) (ok : Bool) (g h : Gate) → before ≡ Err g → Err g ≡ demand before ok h
 demand_refused before ok g h e = rw e
 
-pub demand_passed : (before : Gated) (ok : Bool) (h : Gate) → before ≡ Passed → ok ≡ true → Passed ≡ demand before ok h
+pub demand_passed : (before : Gated) (ok : Bool) (h : Gate) → before ≡ Ok tt → ok ≡ true → Ok tt ≡ demand before ok h
 demand_passed before ok h e o = rw (e, o)
 
-pub demand_failed : (before : Gated) (ok : Bool) (h : Gate) → before ≡ Passed → ok ≡ false → Refused h ≡ demand before ok h
+pub demand_failed : (before : Gated) (ok : Bool) (h : Gate) → before ≡ Ok tt → ok ≡ false → Err h ≡ demand before ok h
 demand_failed before ok h e o = rw (e, o)
 
 -- what a passed test says
-pub demand_facts : (before : Gated) (ok : Bool) (h : Gate) → demand before ok h ≡ Passed → (before ≡ Passed) × (ok ≡ true)
-demand_facts Passed true h e = (refl, refl)
-demand_facts Passed false h e = let z : ◌≡◌ {A = ℕ} 0 1 = cc in absurd (omega arith)
-demand_facts (Refused g) ok h e = let z : ◌≡◌ {A = ℕ} 0 1 = cc in absurd (omega arith)
+pub demand_facts : (before : Gated) (ok : Bool) (h : Gate) → demand before ok h ≡ Ok tt → (before ≡ Ok tt) × (ok ≡ true)
+demand_facts (Ok _) true h e = (refl, refl)
+demand_facts (Ok _) false h e = let z : ◌≡◌ {A = ℕ} 0 1 = cc in absurd (omega arith)
+demand_facts (Err g) ok h e = let z : ◌≡◌ {A = ℕ} 0 1 = cc in absurd (omega arith)
 
 -- ---- limits
 
@@ -106,6 +103,13 @@ module _ (e c : ℕ) where
         let m : min e 1024 ≡ e = omega arith in
         let p : 0 < e = omega arith in
         rw (le-leb 1 c (omega arith), m) (leb_same c (8192 / e) (c * e) 8192 (λ k. (le-div_iff_mul-le p).0 k) (λ k. (le-div_iff_mul-le p).1 k))
+
+    -- by the smaller of e and 1024
+    pub factor_some : (e ≡ 0 → ⊥) → (m : ℕ) → m ≡ min e 1024 → leb c (8192 / m) ≡ factor_fits e c
+    unfolding factor_fits
+    factor_some h m is =
+        let p : 0 < m = omega arith in
+        rw (le-leb 1 c (omega arith), ← is) (leb_same c (8192 / m) (c * m) 8192 (λ k. (le-div_iff_mul-le p).0 k) (λ k. (le-div_iff_mul-le p).1 k))
 
 -- ---- level counts
 
@@ -148,32 +152,32 @@ counts_none ls left = eqb_same left 0 0 left (λ z. omega arith) (λ z. omega ar
 -- ---- the opening
 
 module _ (n e seed : ℕ) (limits : Limits) (cs ws fs : List ℕ) where
-  pub open_refused : (g : Gate) → open_gate n e limits (length ws) (length fs) ≡ Refused g → opened (opening.Refused g) cs ws fs ≡ open_of n e seed limits cs ws fs
+  pub open_refused : (g : Gate) → open_gate n e limits (length ws) (length fs) ≡ Err g → opened (Err g) cs ws fs ≡ open_of n e seed limits cs ws fs
   unfolding open_of open_by
   open_refused g h = rw h
 
-  pub open_fresh : (levels most : ℕ) (cs' ws' fs' : List ℕ) → open_gate n e limits (length ws) (length fs) ≡ Passed → levels ≡ levels_of n → most ≡ maximum n e
+  pub open_fresh : (levels most : ℕ) (cs' ws' fs' : List ℕ) → open_gate n e limits (length ws) (length fs) ≡ Ok tt → levels ≡ levels_of n → most ≡ maximum n e
       → cs' ≡ replicate (length cs) 0 → ws' ≡ replicate (length ws) 0 → fs' ≡ replicate (length fs) 0
-      → opened (opening.Open (record { n = n; e = e; seed = seed; limits = limits; plan = record { levels = levels; maximum = most }; count = 0 })) cs' ws' fs' ≡ open_of n e seed limits cs ws fs
+      → opened (Ok (record { n = n; e = e; seed = seed; limits = limits; plan = record { levels = levels; maximum = most }; count = 0 })) cs' ws' fs' ≡ open_of n e seed limits cs ws fs
   unfolding open_of open_by
   open_fresh levels most cs' ws' fs' h a b f g k = rw (h, a, b, f, g, k)
 
 -- what an opening that was answered says
-pub open_facts : (n e seed : ℕ) (limits : Limits) (cs ws fs : List ℕ) (st : State) (cs' ws' fs' : List ℕ) → open_of n e seed limits cs ws fs ≡ opened (opening.Open st) cs' ws' fs'
+pub open_facts : (n e seed : ℕ) (limits : Limits) (cs ws fs : List ℕ) (st : State) (cs' ws' fs' : List ℕ) → open_of n e seed limits cs ws fs ≡ opened (Ok st) cs' ws' fs'
     → Configured n e × (fresh_of n e seed limits ≡ st) × (replicate (length cs) 0 ≡ cs') × (replicate n 0 ≡ ws') × (replicate n 0 ≡ fs')
 unfolding open_of open_by open_gate setting_gate
 open_facts n e seed limits cs ws fs st cs' ws' fs' h = go (open_gate n e limits (length ws) (length fs)) refl h
   where
-    go : (g : Gated) → open_gate n e limits (length ws) (length fs) ≡ g → open_by g n e seed limits cs ws fs ≡ opened (opening.Open st) cs' ws' fs'
+    go : (g : Gated) → open_gate n e limits (length ws) (length fs) ≡ g → open_by g n e seed limits cs ws fs ≡ opened (Ok st) cs' ws' fs'
         → Configured n e × (fresh_of n e seed limits ≡ st) × (replicate (length cs) 0 ≡ cs') × (replicate n 0 ≡ ws') × (replicate n 0 ≡ fs')
-    go (Refused g) q k = let a = ap (λ (d : OpenDone). d.answer) k in let z : ◌≡◌ {A = ℕ} 0 1 = cc in absurd (omega arith)
-    go Passed q k =
+    go (Err g) q k = let a = ap (λ (d : OpenDone). d.answer) k in let z : ◌≡◌ {A = ℕ} 0 1 = cc in absurd (omega arith)
+    go (Ok _) q k =
         let f = demand_facts _ _ _ q in
         let b = demand_facts _ _ _ f.0 in
         let size = both_yes (eqb (length ws) n) (eqb (length fs) n) f.1 in
         let lw = eqb-true (length ws) n size.0 in
         let lf = eqb-true (length fs) n size.1 in
-        let a : opening.Open (fresh_of n e seed limits) ≡ opening.Open st = ap (λ (d : OpenDone). d.answer) k in
+        let a : Ok (fresh_of n e seed limits) ≡ Ok st = ap (λ (d : OpenDone). d.answer) k in
         let w : replicate (length ws) 0 ≡ ws' = ap (λ (d : OpenDone). d.words) k in
         let v : replicate (length fs) 0 ≡ fs' = ap (λ (d : OpenDone). d.flags) k in
         (config_gate_facts n e b.0, cc, ap (λ (d : OpenDone). d.counts) k, rw lw at w, rw lf at v)
@@ -210,7 +214,7 @@ within_at_lem [] (c ∷ cs) h (suc k) = within_at_lem [] cs (both_yes (eqb c 0) 
 within_at_lem (l ∷ ls) (c ∷ cs) h zero = leb-true c l (both_yes _ _ h).0
 within_at_lem (l ∷ ls) (c ∷ cs) h (suc k) = within_at_lem ls cs (both_yes (leb c l) (counts_within ls cs) h).1 k
 
-pub gate_valid : (st : State) (cs : List ℕ) (words flags : ℕ) → gate_of st cs words flags ≡ Passed → Valid st cs words flags
+pub gate_valid : (st : State) (cs : List ℕ) (words flags : ℕ) → gate_of st cs words flags ≡ Ok tt → Valid st cs words flags
 unfolding gate_of setting_gate state_fits counts_fit lengths_of
 gate_valid st cs words flags h =
     let a = demand_facts _ _ _ h in

@@ -3,8 +3,9 @@ ghost use Rattle.std.specs.Prelude.{◌≡◌, List, ℕ, ◌+◌, ◌-◌, ◌*
 ghost use Rattle.geometry.specs.Elastic.{split};
 ghost use Rattle.elastic.specs.State.{cap_fits, factor_fits, limits_fit, buffers_fit, counts_fit, state_fits, setting_gate, open_gate, gate_of, opened, open_of};
 
-use geometry::config::{Gated, config_gate, max_insertions};
+use geometry::config::{config_gate, max_insertions};
 use geometry::elastic::{ElasticPlan, is_elastic_plan, next_length};
+use lent::store::Stored;
 use refusal::Gate;
 use words::clear::{clear_bytes, clear_words};
 use words::power::ceil_log2;
@@ -29,99 +30,67 @@ pub struct State {
     pub count: u64,
 }
 
-#[derive(Clone, Copy)]
-pub enum Opened {
-    Open(State),
-    Refused(Gate),
-}
-
 // A fresh table: all three lent lists zeroed.
-pub fn open(
+pub fn open<E: Stored>(
     n: u64,
     e: u32,
     seed: u64,
     limits: Limits,
     counts: &mut [u64; 32],
-    words: &mut [u64],
+    words: &mut [E],
     flags: &mut [u8],
-) -> Opened
-    ensures { opened result counts.new words.new flags.new ≡ open_of n e seed limits counts.old words.old flags.old }
+) -> Result<State, Gate>
+    ensures { opened result counts.new (E.words words.new) flags.new ≡ open_of n e seed limits counts.old (E.words words.old) flags.old }
 {
-    match open_gate(n, e, limits, words.len(), flags.len()) {
-        Gated::Refused(gate) => {
-            return Opened::Refused(gate);
-        }
-        Gated::Passed => {
-            let levels = ceil_log2(n);
-            let maximum = max_insertions(n, e);
-            clear_words(counts);
-            clear_words(words);
-            clear_bytes(flags);
-            let plan = ElasticPlan { levels, maximum };
-            return Opened::Open(State {
-                n,
-                e,
-                seed,
-                limits,
-                plan,
-                count: 0,
-            });
-        }
-    }
+    open_gate(n, e, limits, E::count(words) as usize, flags.len())?;
+    let levels = ceil_log2(n);
+    let maximum = max_insertions(n, e);
+    clear_words(counts);
+    E::clear(words);
+    clear_bytes(flags);
+    Ok(State {
+        n,
+        e,
+        seed,
+        limits,
+        plan: ElasticPlan { levels, maximum },
+        count: 0,
+    })
 }
 
 // The tests of an opening.
-pub fn open_gate(n: u64, e: u32, limits: Limits, words: usize, flags: usize) -> Gated
+pub fn open_gate(n: u64, e: u32, limits: Limits, words: usize, flags: usize) -> Result<(), Gate>
     ensures { result ≡ open_gate n e limits words flags }
 {
-    match setting_gate(n, e, limits) {
-        Gated::Refused(gate) => {
-            return Gated::Refused(gate);
-        }
-        Gated::Passed => {
-            if buffers_fit(n, words, flags) {
-                return Gated::Passed;
-            }
-            return Gated::Refused(Gate::State);
-        }
+    setting_gate(n, e, limits)?;
+    if buffers_fit(n, words, flags) {
+        Ok(())
+    } else {
+        Err(Gate::State)
     }
 }
 
 // The tests of a call on a state.
-pub fn state_gate(st: State, counts: &[u64; 32], words: usize, flags: usize) -> Gated
+pub fn state_gate(st: State, counts: &[u64; 32], words: usize, flags: usize) -> Result<(), Gate>
     ensures { result ≡ gate_of st counts.now words flags }
 {
-    let n = st.n;
-    let e = st.e;
-    let limits = st.limits;
-    let plan = st.plan;
-    match setting_gate(n, e, limits) {
-        Gated::Refused(gate) => {
-            return Gated::Refused(gate);
-        }
-        Gated::Passed => {
-            if state_fits(n, e, plan, st.count, counts, words, flags) {
-                return Gated::Passed;
-            }
-            return Gated::Refused(Gate::State);
-        }
+    setting_gate(st.n, st.e, st.limits)?;
+    if state_fits(st.n, st.e, st.plan, st.count, counts, words, flags) {
+        Ok(())
+    } else {
+        Err(Gate::State)
     }
 }
 
 // The configuration and the limits.
-pub fn setting_gate(n: u64, e: u32, limits: Limits) -> Gated
+pub fn setting_gate(n: u64, e: u32, limits: Limits) -> Result<(), Gate>
     ensures { result ≡ setting_gate n e limits }
 {
-    match config_gate(n, e) {
-        Gated::Refused(gate) => {
-            return Gated::Refused(gate);
-        }
-        Gated::Passed => {
-            if limits_fit(e, limits) {
-                return Gated::Passed;
-            }
-            return Gated::Refused(Gate::Limits);
-        }
+    config_gate(n, e)?;
+    if limits_fit(e, limits) {
+        Ok(())
+    } else {
+        Err(Gate::Limits)
     }
 }
 
@@ -129,52 +98,31 @@ pub fn setting_gate(n: u64, e: u32, limits: Limits) -> Gated
 fn cap_fits(cap: u64, most: u64) -> bool
     ensures { result ≡ cap_fits cap most }
 {
-    if cap == 0 {
-        return false;
-    }
-    cap <= most
+    0 < cap && cap <= most
 }
 
 // Whether the limits are in the domain.
 fn limits_fit(e: u32, limits: Limits) -> bool
     ensures { result ≡ limits_fit e limits }
 {
-    if !cap_fits(limits.range_word_cap, 8) {
-        return false;
-    }
-    if !cap_fits(limits.uniform_search_probe_cap, 8192) {
-        return false;
-    }
-    if !factor_fits(e as u64, limits.probe_budget_c) {
-        return false;
-    }
-    cap_fits(limits.hit_query_position_cap, 984263340)
+    cap_fits(limits.range_word_cap, 8)
+        && cap_fits(limits.uniform_search_probe_cap, 8192)
+        && factor_fits(e as u64, limits.probe_budget_c)
+        && cap_fits(limits.hit_query_position_cap, 984263340)
 }
 
-// Whether c is at least 1, and c times min(e, 1024) at most 8,192.
+// Whether c is at least 1, and c times min(e, 1024) at most 8,192. No product is formed.
 fn factor_fits(e: u64, c: u64) -> bool
     ensures { result ≡ factor_fits e c }
 {
-    if c == 0 {
-        return false;
-    }
-    if e == 0 {
-        return true;
-    }
-    if 1024 < e {
-        return c <= 8;
-    }
-    c <= 8192 / e
+    0 < c && (e == 0 || c <= 8192 / e.min(1024))
 }
 
 // Whether both buffers are n long.
 fn buffers_fit(n: u64, words: usize, flags: usize) -> bool
     ensures { result ≡ buffers_fit n words flags }
 {
-    if words as u64 != n {
-        return false;
-    }
-    flags as u64 == n
+    words as u64 == n && flags as u64 == n
 }
 
 // Whether buffers, count, plan and level counts are those of a table.
@@ -190,16 +138,10 @@ fn state_fits(
     requires { length counts.now ≡ 32 }
     ensures { result ≡ state_fits n e plan count counts.now words flags }
 {
-    if !buffers_fit(n, words, flags) {
-        return false;
-    }
-    if n < count {
-        return false;
-    }
-    if !is_elastic_plan(n, e, plan) {
-        return false;
-    }
-    counts_fit(n, plan.levels, count, counts)
+    buffers_fit(n, words, flags)
+        && count <= n
+        && is_elastic_plan(n, e, plan)
+        && counts_fit(n, plan.levels, count, counts)
 }
 
 // Whether no level count is above its level's length, none is set beyond the last level, and they sum to the count.
@@ -209,19 +151,13 @@ fn counts_fit(n: u64, levels: u64, count: u64, counts: &[u64]) -> bool
 {
     let mut rest = n;
     let mut left = count;
-    let mut i = 0;
-    while i < 32 {
-        let members = counts[i as usize];
-        let length = next_length(levels, i, rest);
-        if length < members {
-            return false;
-        }
-        if left < members {
+    for (i, &members) in counts.iter().enumerate() {
+        let length = next_length(levels, i as u64, rest);
+        if length < members || left < members {
             return false;
         }
         left -= members;
         rest -= length;
-        i += 1;
     }
     left == 0
 }

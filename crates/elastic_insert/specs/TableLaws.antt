@@ -1,28 +1,22 @@
 -- Laws of tables over time. Assumes nothing.
-use Rattle.std.specs.Prelude.{Bool, true, false, List, [], ◌∷◌, ◌≡◌, refl, ℕ, zero, suc, ◌+◌, ◌≤◌, ◌<◌, eqb, ltb, length, get_or, set, replicate}
+use Rattle.std.specs.Prelude.{Bool, true, false, List, [], ◌∷◌, ◌≡◌, refl, ℕ, zero, suc, ◌+◌, ◌≤◌, ◌<◌, eqb, ltb, length, get_or, set, replicate, Ok, Err}
 use Rattle.std.proofs.Common.{sym, ap, subst, ◌∙◌, lt_of_not-le, arith, length-set, get_or-set_same, get_or-set_other, eqb-true, ltb-false}
 use Rattle.std.proofs.Math.Decide.{dec_le}
 use Rattle.std.proofs.lemmas.List.{length-replicate}
 use Rattle.std.proofs.lemmas.Bool.{eqb-false}
 use Rattle.words.specs.BytesLaws.{get_d_zeros}
 use Rattle.words.specs.Pick.{pick}
-use Rattle.geometry.specs.declared.config.Gated.{Gated}
-use Rattle.geometry.specs.declared.config.Gated.TheVariants as gated
-use Rattle.geometry.specs.Config.{Configured}
+use Rattle.geometry.specs.Config.{Gated, Configured}
 use Rattle.geometry.specs.Elastic.{total, levels_of, lengths_of, length_at, offset_at}
 use Rattle.geometry.specs.ElasticLaws.{total_take_step, prefix_mono, levels_facts, level_within}
 use Rattle.elastic_probe.specs.Phi.{phi}
 use Rattle.elastic.specs.declared.state.Limits.{Limits}
 use Rattle.elastic.specs.declared.state.State.{State}
 use Rattle.elastic_steps.specs.declared.answer.InsertRefusal.TheVariants as refusal
-use Rattle.elastic_steps.specs.declared.answer.InsertAnswer.{InsertAnswer}
-use Rattle.elastic_steps.specs.declared.answer.InsertAnswer.TheVariants as answer
-use Rattle.elastic_steps.specs.declared.answer.Chosen.{Chosen}
-use Rattle.elastic_steps.specs.declared.answer.Chosen.TheVariants as chosen
 use Rattle.elastic.specs.State.{gate_of, fresh_of}
 use Rattle.elastic.specs.StateLaws.{gate_valid, open_facts}
 use Rattle.elastic.specs.Reading.{vacant_at}
-use Rattle.elastic_steps.specs.Insert.{choose_of, Done, done, counted, added_to, insertion_of, place_by, insert_by, insert_of}
+use Rattle.elastic_steps.specs.Insert.{InsertAnswer, Chosen, choose_of, Done, done, counted, added_to, insertion_of, place_by, insert_by, insert_of}
 use Rattle.elastic_steps.specs.InsertLaws.{choose_taken}
 use Rattle.elastic_insert.specs.Table.{Outcome, kept, stored, occupied, Counted, Reached, fresh, more}
 
@@ -37,19 +31,19 @@ pub insert_outcome : (st : State) (cs ws fs : List ℕ) (id : ℕ) → Outcome s
 unfolding insert_of place_by
 insert_outcome st cs ws fs id = go (gate_of st cs (length ws) (length fs)) refl
   where
-    place : gate_of st cs (length ws) (length fs) ≡ gated.Passed → (x : Chosen) → choose_of st cs ws fs id ≡ x → Outcome st cs ws fs id (place_by st cs ws fs id x)
-    place p (chosen.Refused r) e = kept r (λ q. e ∙ ap chosen.Refused q)
-    place p (chosen.Slot case level slot probe) e = by (ltb st.limits.hit_query_position_cap (phi (level + 1) (probe.0 + 1))) refl
+    place : gate_of st cs (length ws) (length fs) ≡ Ok tt → (x : Chosen) → choose_of st cs ws fs id ≡ x → Outcome st cs ws fs id (place_by st cs ws fs id x)
+    place p (Err r) e = kept r (λ q. e ∙ ap Err q)
+    place p (Ok x) e = by (ltb st.limits.hit_query_position_cap (phi (x.level + 1) (x.probe.0 + 1))) refl
       where
-        by : (y : Bool) → ltb st.limits.hit_query_position_cap (phi (level + 1) (probe.0 + 1)) ≡ y
-            → Outcome st cs ws fs id (pick y (done (answer.Refused refusal.Position) st cs ws fs)
-            (done (answer.Inserted (insertion_of st.n case level slot probe)) (counted st) (added_to cs level) (set ws slot id) (set fs slot 1)))
+        by : (y : Bool) → ltb st.limits.hit_query_position_cap (phi (x.level + 1) (x.probe.0 + 1)) ≡ y
+            → Outcome st cs ws fs id (pick y (done (Err refusal.Position) st cs ws fs)
+            (done (Ok (insertion_of st.n x.case x.level x.slot x.probe)) (counted st) (added_to cs x.level) (set ws x.slot id) (set fs x.slot 1)))
         by true d = kept refusal.Position (λ q. never (cc))
-        by false d = stored case level slot probe (gate_valid st cs (length ws) (length fs) p) e (ltb-false _ _ d)
+        by false d = stored x.case x.level x.slot x.probe (gate_valid st cs (length ws) (length fs) p) e (ltb-false _ _ d)
 
     go : (g : Gated) → gate_of st cs (length ws) (length fs) ≡ g → Outcome st cs ws fs id (insert_by g st cs ws fs id)
-    go (gated.Refused g) e = kept (refusal.Gate g) (λ q. never (cc))
-    go gated.Passed e = place e (choose_of st cs ws fs id) refl
+    go (Err g) e = kept (refusal.Gate g) (λ q. never (cc))
+    go (Ok _) e = place e (choose_of st cs ws fs id) refl
 
 -- what holds of what an insertion leaves, of state and lists by name
 pub leaves : (P : State → List ℕ → List ℕ → List ℕ → Type 0) {d : Done} {a : InsertAnswer} {st : State} {cs ws fs : List ℕ} → d ≡ done a st cs ws fs

@@ -1,5 +1,5 @@
 -- A stored identity is found by the phi of its insertion. Assumes nothing.
-use Rattle.std.specs.Prelude.{Bool, true, false, List, ◌≡◌, refl, ℕ, zero, suc, ◌+◌, ◌≤◌, eqb, length, get_or, set}
+use Rattle.std.specs.Prelude.{Bool, true, false, List, ◌≡◌, refl, ℕ, zero, suc, ◌+◌, ◌≤◌, eqb, length, get_or, set, Ok, Err, Some, None}
 use Rattle.std.proofs.Common.{sym, ap, ◌∙◌, arith, eqb-true}
 use Rattle.std.proofs.lemmas.Bool.{eqb-false}
 use Rattle.words.specs.BytesLaws.{get_d_zeros}
@@ -7,20 +7,13 @@ use Rattle.words.specs.declared.place.LogicalProbe.{LogicalProbe}
 use Rattle.words.specs.Pick.{pick}
 use Rattle.geometry.specs.declared.elastic.ElasticPlan.{ElasticPlan}
 use Rattle.probe.specs.Word.{elastic_key_of}
-use Rattle.elastic.specs.declared.route.Reading.{Reading}
-use Rattle.elastic.specs.declared.route.Reading.TheVariants as reading
-use Rattle.elastic.specs.declared.route.Sought.TheVariants as sought
-use Rattle.elastic.specs.declared.route.Located.TheVariants as located
 use Rattle.elastic.specs.declared.state.Limits.{Limits}
 use Rattle.elastic.specs.declared.state.State.{State}
 use Rattle.elastic.specs.StateLaws.{open_facts}
-use Rattle.elastic.specs.Reading.{reading_of, vacant_at, holds_at, seek_by, seek_from, first_of}
+use Rattle.elastic.specs.Reading.{read_slot, Routed, vacant, Sought, reading_of, vacant_at, holds_at, seek_by, seek_from, first_of}
 use Rattle.elastic_query.specs.declared.query.Finding.{Finding}
-use Rattle.elastic_query.specs.declared.query.QueryAnswer.{QueryAnswer}
-use Rattle.elastic_query.specs.declared.query.QueryAnswer.TheVariants as query
-use Rattle.elastic_query.specs.Query.{positions_of, query_of}
+use Rattle.elastic_query.specs.Query.{QueryAnswer, positions_of, query_of}
 use Rattle.elastic_steps.specs.declared.answer.Insertion.{Insertion}
-use Rattle.elastic_steps.specs.declared.answer.InsertAnswer.TheVariants as answer
 use Rattle.elastic_steps.specs.Insert.{Done, counted, added_to, insertion_of, insert_of}
 use Rattle.elastic_steps.specs.InsertLaws.{Taken, choose_taken}
 use Rattle.elastic_insert.specs.Table.{Outcome, kept, stored, Reached, fresh, more}
@@ -31,36 +24,38 @@ use Rattle.elastic_laws.specs.GateLaws.{reached_lasting, reached_gate}
 use Rattle.elastic_laws.specs.Lookup.{WentIn, now, later, read_at, route_of, Answers, found, refused, Placed, Inserted}
 use Rattle.elastic_laws.specs.HoldsLaws.{holds_flag, holds_apart, holds_written, holds_only_written, nowhere}
 use Rattle.elastic_laws.proofs.WalkLaws.{positions_answer}
+use Rattle.elastic.specs.declared.route.Vacant.{Vacant}
 
 -- ---- what a search read
 
 -- the vacancy that a search found is the reading of its probe
-seek_reads : (n key cap : ℕ) (fs : List ℕ) (level tries q slot : ℕ) (probe : LogicalProbe) → seek_from n key cap fs level tries q ≡ sought.Vacant slot probe
-    → (words : ℕ) × (reading_of n key cap level probe.0 ≡ reading.Slot slot words)
+seek_reads : (n key cap : ℕ) (fs : List ℕ) (level tries q slot : ℕ) (probe : LogicalProbe) → seek_from n key cap fs level tries q ≡ Ok (Some (vacant slot probe))
+    → (words : ℕ) × (reading_of n key cap level probe.0 ≡ Ok (read_slot slot words))
 unfolding seek_from
 seek_reads n key cap fs level zero q slot probe h = never (cc)
 seek_reads n key cap fs level (suc tries) q slot probe h = step (reading_of n key cap level q) refl h (λ g. seek_reads n key cap fs level tries (q + 1) slot probe g)
   where
-    by : (u w : ℕ) → reading_of n key cap level q ≡ reading.Slot u w → (x : Bool) → pick x (sought.Vacant u (record { 0 = q })) (seek_from n key cap fs level tries (q + 1)) ≡ sought.Vacant slot probe
-        → (seek_from n key cap fs level tries (q + 1) ≡ sought.Vacant slot probe → (words : ℕ) × (reading_of n key cap level probe.0 ≡ reading.Slot slot words))
-        → (words : ℕ) × (reading_of n key cap level probe.0 ≡ reading.Slot slot words)
+    by : (u w : ℕ) → reading_of n key cap level q ≡ Ok (read_slot u w) → (x : Bool) → pick {A = Sought} x (Ok (Some (vacant u (record { 0 = q })))) (seek_from n key cap fs level tries (q + 1)) ≡ Ok (Some (vacant slot probe))
+        → (seek_from n key cap fs level tries (q + 1) ≡ Ok (Some (vacant slot probe)) → (words : ℕ) × (reading_of n key cap level probe.0 ≡ Ok (read_slot slot words)))
+        → (words : ℕ) × (reading_of n key cap level probe.0 ≡ Ok (read_slot slot words))
     by u w e false g on = on g
     by u w e true g on =
-        let a : u ≡ slot = cc in
-        let p : ◌≡◌ {A = LogicalProbe} (record { 0 = q }) probe = cc in
+        let same : vacant u (record { 0 = q }) ≡ vacant slot probe = cc in
+        let a : u ≡ slot = ap (λ (x : Vacant). x.slot) same in
+        let p : ◌≡◌ {A = LogicalProbe} (record { 0 = q }) probe = ap (λ (x : Vacant). x.probe) same in
         let b : q ≡ probe.0 = ap (λ (x : LogicalProbe). x.0) p in
         (w, rw (← b, ← a) e)
 
-    step : (r : Reading) → reading_of n key cap level q ≡ r → seek_by fs q r (seek_from n key cap fs level tries (q + 1)) ≡ sought.Vacant slot probe
-        → (seek_from n key cap fs level tries (q + 1) ≡ sought.Vacant slot probe → (words : ℕ) × (reading_of n key cap level probe.0 ≡ reading.Slot slot words))
-        → (words : ℕ) × (reading_of n key cap level probe.0 ≡ reading.Slot slot words)
-    step (reading.Refused r) e g on = never (cc)
-    step (reading.Slot u w) e g on = by u w e (vacant_at fs u) g on
+    step : (r : Routed) → reading_of n key cap level q ≡ r → seek_by fs q r (seek_from n key cap fs level tries (q + 1)) ≡ Ok (Some (vacant slot probe))
+        → (seek_from n key cap fs level tries (q + 1) ≡ Ok (Some (vacant slot probe)) → (words : ℕ) × (reading_of n key cap level probe.0 ≡ Ok (read_slot slot words)))
+        → (words : ℕ) × (reading_of n key cap level probe.0 ≡ Ok (read_slot slot words))
+    step (Err r) e g on = never (cc)
+    step (Ok x) e g on = by x.slot x.words e (vacant_at fs x.slot) g on
 
 -- ---- one insertion
 
 -- the identity that is stored
-placed_now : (st : State) (cs ws fs : List ℕ) (id : ℕ) (i : Insertion) (d : Done) → Outcome st cs ws fs id d → d.answer ≡ answer.Inserted i → Placed d.st d.words d.flags id i
+placed_now : (st : State) (cs ws fs : List ℕ) (id : ℕ) (i : Insertion) (d : Done) → Outcome st cs ws fs id d → d.answer ≡ Ok i → Placed d.st d.words d.flags id i
 placed_now st cs ws fs id i d (kept r h) e = never (cc)
 placed_now st cs ws fs id i d (stored case level slot probe v h near) e =
     let q : insertion_of st.n case level slot probe ≡ i = cc in
@@ -79,7 +74,7 @@ placed_now st cs ws fs id i d (stored case level slot probe v h near) e =
       only = λ u g. only w.absent (v.flags_size ∙ sym v.words_size) u g (eqb u slot) refl;
     })
   where
-    only : first_of ws fs id ≡ located.Nowhere → length fs ≡ length ws → (u : ℕ) → holds_at (set ws slot id) (set fs slot 1) id u ≡ true → (x : Bool) → eqb u slot ≡ x → u ≡ slot
+    only : first_of ws fs id ≡ None → length fs ≡ length ws → (u : ℕ) → holds_at (set ws slot id) (set fs slot 1) id u ≡ true → (x : Bool) → eqb u slot ≡ x → u ≡ slot
     only a l u g true k = eqb-true u slot k
     only a l u g false k =
         let m = holds_apart ws fs id id slot u (eqb-false u slot k) in
@@ -128,7 +123,7 @@ placed_later st cs ws fs id i p x d (stored case level slot probe v h near) =
 
 -- insertions reach from fresh every table in which an identity went in
 pub went_reached : {n e seed : ℕ} {limits : Limits} {id : ℕ} {i : Insertion} {st : State} {cs ws fs : List ℕ} → WentIn n e seed limits id i st cs ws fs → Reached n e seed limits st cs ws fs
-went_reached {id = id} {i} (now st cs ws fs st' cs' ws' fs' r h) = more st cs ws fs id (answer.Inserted i) st' cs' ws' fs' r h
+went_reached {id = id} {i} (now st cs ws fs st' cs' ws' fs' r h) = more st cs ws fs id (Ok i) st' cs' ws' fs' r h
 went_reached (later st cs ws fs x a st' cs' ws' fs' w h) = more st cs ws fs x a st' cs' ws' fs' (went_reached w) h
 
 -- An identity that went in stands in the slot that its insertion answered, and in no other.
@@ -142,7 +137,7 @@ went_placed {id = id} {i} (later st cs ws fs x a st' cs' ws' fs' k h) =
 went_outcome : {n e seed : ℕ} {limits : Limits} {st : State} {cs ws fs : List ℕ} → Reached n e seed limits st cs ws fs → (x id s : ℕ) (d : Done) → insert_of st cs ws fs x ≡ d → Outcome st cs ws fs x d
     → holds_at d.words d.flags id s ≡ true → (holds_at ws fs id s ≡ true → (i : Insertion) × WentIn n e seed limits id i st cs ws fs × (i.location.global_slot.0 ≡ s))
     → (i : Insertion) × WentIn n e seed limits id i d.st d.counts d.words d.flags × (i.location.global_slot.0 ≡ s)
-went_outcome {st = st} {cs} {ws} {fs} r x id s d is (kept c h) g past = let p = past g in (p.0, later st cs ws fs x (answer.Refused c) st cs ws fs p.1 is, p.2)
+went_outcome {st = st} {cs} {ws} {fs} r x id s d is (kept c h) g past = let p = past g in (p.0, later st cs ws fs x (Err c) st cs ws fs p.1 is, p.2)
 went_outcome {n} {e} {seed} {limits} {st} {cs} {ws} {fs} r x id s d is (stored case level slot probe v h near) g past = go (eqb s slot) refl
   where
     go : (y : Bool) → eqb s slot ≡ y
@@ -158,7 +153,7 @@ went_outcome {n} {e} {seed} {limits} {st} {cs} {ws} {fs} r x id s d is (stored c
         )
     go false k =
         let p = past (sym (holds_apart ws fs x id slot s (eqb-false s slot k)) ∙ g) in
-        (p.0, later st cs ws fs x (answer.Inserted (insertion_of st.n case level slot probe)) (counted st) (added_to cs level) (set ws slot x) (set fs slot 1) p.1 is, p.2)
+        (p.0, later st cs ws fs x (Ok (insertion_of st.n case level slot probe)) (counted st) (added_to cs level) (set ws slot x) (set fs slot 1) p.1 is, p.2)
 
 -- Every identity that a table from fresh holds went in by an insertion, which answered the slot that holds it.
 pub stored_went_in : {n e seed : ℕ} {limits : Limits} {st : State} {cs ws fs : List ℕ} → Reached n e seed limits st cs ws fs → (id s : ℕ) → holds_at ws fs id s ≡ true
@@ -187,7 +182,7 @@ found_by_phi {id = id} {i} {st} {cs} {ws} {fs} w =
 -- ---- who is answered
 
 -- what an answer that names a slot says, where it is one of those that an inserted identity has
-pub answers_found : {reads : ℕ → Reading} {slot last : ℕ} (a : QueryAnswer) (f : Finding) → Answers reads slot last a → a ≡ query.Found f → (f.global_slot.0 ≡ slot) × (f.position ≤ last)
+pub answers_found : {reads : ℕ → Routed} {slot last : ℕ} (a : QueryAnswer) (f : Finding) → Answers reads slot last a → a ≡ Ok f → (f.global_slot.0 ≡ slot) × (f.position ≤ last)
 answers_found a f (found g s p) e =
     let q : g ≡ f = cc in
     (rw (← q) s, rw (← q) p)
@@ -208,7 +203,7 @@ module _ {n e seed : ℕ} {limits : Limits} {st : State} {cs ws fs : List ℕ} (
       go true q = let w = stored_went_in r id s q in absurd (not (w.0, w.1))
 
   -- an identity that a scan does not find was not inserted
-  pub nowhere_stranger : first_of ws fs id ≡ located.Nowhere → Inserted n e seed limits id st cs ws fs → ⊥
+  pub nowhere_stranger : first_of ws fs id ≡ None → Inserted n e seed limits id st cs ws fs → ⊥
   nowhere_stranger q w =
       let size : length fs ≡ length ws = (reached_kept r).counts.flags_size ∙ sym (reached_lasting r).words_size in
       let h = (went_placed w.1).holds in

@@ -1,24 +1,19 @@
 -- The answer to request 10, "Never both low". Each theorem is a sentence of the request, in its words above it. They speak of `open_of`, `insert_of` and `query_of`, to which the calls `open`, `insert`
 -- and `query` are proved equal, for every n, e, seed, identity and limits. Assumes nothing.
-use Rattle.std.specs.Prelude.{true, ◌≡◌, refl, ℕ, ◌≤◌, length}
+use Rattle.std.specs.Prelude.{true, ◌≡◌, refl, ℕ, ◌≤◌, length, Ok, Err, Some, None}
 use mathlib.Core.List.{List, Memᴰ}
 use Rattle.std.proofs.Common.{sym, ◌∙◌}
 use Rattle.geometry.specs.Config.{Configured, maximum}
 use Rattle.geometry.specs.Elastic.{total, quotas_of}
 use Rattle.geometry.specs.ElasticLaws.{quotas_total}
-use Rattle.elastic.specs.declared.route.Located.{Located}
-use Rattle.elastic.specs.declared.route.Located.TheVariants as located
 use Rattle.elastic.specs.declared.state.Limits.{Limits}
 use Rattle.elastic.specs.declared.state.State.{State}
-use Rattle.elastic.specs.declared.state.Opened.TheVariants as opening
 use Rattle.elastic.specs.State.{opened, open_of}
-use Rattle.elastic.specs.Reading.{holds_at, first_of}
+use Rattle.elastic.specs.Reading.{Located, holds_at, first_of}
 use Rattle.elastic.specs.ReadingLaws.{first_is}
 use Rattle.elastic_steps.specs.declared.answer.Insertion.{Insertion}
-use Rattle.elastic_steps.specs.declared.answer.InsertAnswer.TheVariants as answer
 use Rattle.elastic_steps.specs.declared.answer.InsertRefusal.TheVariants as refusal
 use Rattle.elastic_query.specs.declared.query.Finding.{Finding}
-use Rattle.elastic_query.specs.declared.query.QueryAnswer.TheVariants as query
 use Rattle.elastic_query.specs.Query.{query_of}
 use Rattle.elastic_insert.specs.Table.{Reached, fresh}
 use Rattle.elastic_laws.specs.Schedule.{answers_of}
@@ -33,8 +28,8 @@ use Rattle.elastic_laws.proofs.LookupLaws.{stored_went_in, found_by_phi, answers
 -- (Why: `BatchLaws.antt`. A level that is low receives nothing more, so in a batch neither level passes its limit, and both at their limit is the batch's end.)
 -- "SCHEDULE stays, for states made up by a caller": `Examples.antt` has one that is answered so.
 pub no_sequence_meets_schedule : (n e seed : ℕ) (limits : Limits) (cs₀ ws₀ fs₀ : List ℕ) → length cs₀ ≡ 32
-    → (st : State) (cs ws fs : List ℕ) → open_of n e seed limits cs₀ ws₀ fs₀ ≡ opened (opening.Open st) cs ws fs
-    → (ids : List ℕ) → Memᴰ (answer.Refused refusal.Schedule) (answers_of st cs ws fs ids) → ⊥
+    → (st : State) (cs ws fs : List ℕ) → open_of n e seed limits cs₀ ws₀ fs₀ ≡ opened (Ok st) cs ws fs
+    → (ids : List ℕ) → Memᴰ (Err refusal.Schedule) (answers_of st cs ws fs ids) → ⊥
 no_sequence_meets_schedule n e seed limits cs₀ ws₀ fs₀ l st cs ws fs h ids m = answers_never (fresh cs₀ ws₀ fs₀ st cs ws fs l h) ids m
 
 -- "the batch quotas sum to exactly the maximum", n - floor(n/2^e)
@@ -55,7 +50,7 @@ module _ {n e seed : ℕ} {limits : Limits} {st : State} {cs ws fs : List ℕ} (
       go w = (w.0, w.1, rw (← w.2) (found_by_phi w.1))
 
   -- An identity whose query answers a slot was inserted: its insertion answered that slot, with a phi no earlier than the query's position, and the position is within the cap.
-  pub answered_inserted : (f : Finding) → query_of st cs ws fs id ≡ query.Found f
+  pub answered_inserted : (f : Finding) → query_of st cs ws fs id ≡ Ok f
       → (i : Insertion) × WentIn n e seed limits id i st cs ws fs × (f.global_slot.0 ≡ i.location.global_slot.0)
       × (f.position ≤ i.phi) × (f.position ≤ st.limits.hit_query_position_cap)
   answered_inserted f h =
@@ -77,7 +72,7 @@ module _ {n e seed : ℕ} {limits : Limits} {st : State} {cs ws fs : List ℕ} (
   query_exactly = go (first_of ws fs id) refl
     where
       go : (x : Located) → first_of ws fs id ≡ x → Exactly n e seed limits id st cs ws fs (query_of st cs ws fs id)
-      go (located.At s) q =
+      go (Some s) q =
           let w = stored_went_in r id s (first_is ws fs id s q).holds in
           member (query_of st cs ws fs id) w.0 w.1 (found_by_phi w.1)
-      go located.Nowhere q = stranger (query_of st cs ws fs id) (nowhere_stranger r id q) (stranger_unanswered (nowhere_stranger r id q))
+      go None q = stranger (query_of st cs ws fs id) (nowhere_stranger r id q) (stranger_unanswered (nowhere_stranger r id q))

@@ -2,7 +2,7 @@
 use mathlib.Core.List.Memᴰ
 use mathlib.Core.List.{List, [], ◌∷◌, Memᴰ}
 use Rattle.std.proofs.Common.{⊎_elim, sym, ap, ◌∙◌, lt_of_not-le, arith, length-set}
-use Rattle.std.specs.Prelude.{◌≡◌, refl, ℕ, suc, ◌+◌, ◌-◌, ◌≤◌, ◌<◌, length, replicate}
+use Rattle.std.specs.Prelude.{◌≡◌, refl, ℕ, suc, ◌+◌, ◌-◌, ◌≤◌, ◌<◌, length, replicate, Err}
 use Rattle.std.proofs.Math.Decide.{dec_le}
 use Rattle.std.proofs.lemmas.List.{length-replicate}
 use Rattle.geometry.specs.Config.{Configured, maximum}
@@ -13,7 +13,6 @@ use Rattle.elastic.specs.declared.state.Limits.{Limits}
 use Rattle.elastic.specs.declared.state.State.{State}
 use Rattle.elastic.specs.State.{fresh_of}
 use Rattle.elastic.specs.StateLaws.{open_facts}
-use Rattle.elastic_steps.specs.declared.answer.InsertAnswer.TheVariants as answer
 use Rattle.elastic_steps.specs.declared.answer.InsertRefusal.TheVariants as refusal
 use Rattle.elastic_steps.specs.Insert.{Done, counted, added_to, insert_of}
 use Rattle.elastic_insert.specs.Table.{Outcome, kept, stored, Reached, fresh, more}
@@ -116,7 +115,7 @@ reached_scheduled (more st cs ws fs id a st' cs' ws' fs' r h) =
 -- ---- SCHEDULE
 
 -- An insertion answers SCHEDULE only where the table has room and both levels of its batch are low.
-schedule_both_low : (st : State) (cs ws fs : List ℕ) (id : ℕ) (d : Done) → Outcome st cs ws fs id d → d.answer ≡ answer.Refused refusal.Schedule
+schedule_both_low : (st : State) (cs ws fs : List ℕ) (id : ℕ) (d : Done) → Outcome st cs ws fs id d → d.answer ≡ Err refusal.Schedule
     → (st.count < st.plan.maximum) × BothLow st (batch_now st) cs
 schedule_both_low st cs ws fs id d (kept r h) e =
     let q : r ≡ refusal.Schedule = cc in
@@ -126,14 +125,14 @@ schedule_both_low st cs ws fs id d (stored case level slot probe v h near) e = l
 
 -- No insertion into a table that insertions reach from fresh, refused ones among them, is answered SCHEDULE.
 pub never_schedule : {n e seed : ℕ} {limits : Limits} {st : State} {cs ws fs : List ℕ} → Reached n e seed limits st cs ws fs
-    → (id : ℕ) → (insert_of st cs ws fs id).answer ≡ answer.Refused refusal.Schedule → ⊥
+    → (id : ℕ) → (insert_of st cs ws fs id).answer ≡ Err refusal.Schedule → ⊥
 never_schedule {st = st} {cs} {ws} {fs} r id h =
     let w = schedule_both_low st cs ws fs id (insert_of st cs ws fs id) (insert_outcome st cs ws fs id) h in
     never_both_low st cs (reached_scheduled r) w.0 w.1
 
 -- and so of a sequence of them
 pub answers_never : {n e seed : ℕ} {limits : Limits} {st : State} {cs ws fs : List ℕ} → Reached n e seed limits st cs ws fs
-    → (ids : List ℕ) → Memᴰ (answer.Refused refusal.Schedule) (answers_of st cs ws fs ids) → ⊥
+    → (ids : List ℕ) → Memᴰ (Err refusal.Schedule) (answers_of st cs ws fs ids) → ⊥
 unfolding answers_of
 answers_never {st = st} {cs} {ws} {fs} r [] m = Memᴰ.not-nil m
 answers_never {st = st} {cs} {ws} {fs} r (id ∷ ids) m =

@@ -1,5 +1,5 @@
 -- SCHEDULE at a state that a caller made up. Assumes nothing.
-use Rattle.std.specs.Prelude.{◌∷◌, ◌≡◌, refl, replicate}
+use Rattle.std.specs.Prelude.{◌∷◌, ◌≡◌, refl, replicate, Err}
 use Rattle.words.specs.Log.{ceil_log2, first_from}
 use Rattle.geometry.specs.Config.{config_then}
 use Rattle.geometry.specs.Elastic.{level_length, split, lengths_of, later_quotas, uncut_quotas, cut, quotas_of, total, batch_from, batch_of, plan_of, is_plan_of}
@@ -7,7 +7,6 @@ use Rattle.elastic.specs.declared.state.Limits.{Limits}
 use Rattle.elastic.specs.declared.state.State.{State}
 use Rattle.elastic.specs.State.{factor_fits, limits_fit, counts_within, counts_fit, state_fits, setting_gate, gate_of}
 use Rattle.elastic.specs.Reading.{holds_at, first_from as firstSlotFrom, first_of}
-use Rattle.elastic_steps.specs.declared.answer.InsertAnswer.TheVariants as answer
 use Rattle.elastic_steps.specs.declared.answer.InsertRefusal.TheVariants as refusal
 use Rattle.elastic_steps.specs.Insert.{pair_by, pair_of, steps_of, choose_of, place_by, insert_of}
 
@@ -19,6 +18,6 @@ abbrev state : State
 state = record { n = 8; e = 3; seed = 0; limits = limits; plan = plan_of 8 3; count = 6 }
 
 -- A state that passes its tests and is not reached from fresh can still be answered SCHEDULE.
-pub made_up_schedule : (insert_of state (2 ∷ 2 ∷ 2 ∷ replicate 29 0) (replicate 8 0) (replicate 8 0) 7).answer ≡ answer.Refused refusal.Schedule
+pub made_up_schedule : (insert_of state (2 ∷ 2 ∷ 2 ∷ replicate 29 0) (replicate 8 0) (replicate 8 0) 7).answer ≡ Err refusal.Schedule
 unfolding insert_of gate_of setting_gate config_then limits_fit factor_fits state_fits is_plan_of counts_fit counts_within split level_length total ceil_log2 first_from choose_of first_of firstSlotFrom holds_at steps_of batch_of batch_from quotas_of cut uncut_quotas later_quotas lengths_of pair_of pair_by place_by
 made_up_schedule = refl

@@ -1,5 +1,5 @@
 -- The tests of a table that insertions reach from fresh pass. Assumes nothing.
-use Rattle.std.specs.Prelude.{Bool, false, List, [], ◌∷◌, ◌≡◌, ℕ, zero, suc, ◌+◌, ◌≤◌, eqb, leb, length, get_or, replicate}
+use Rattle.std.specs.Prelude.{Bool, false, List, [], ◌∷◌, ◌≡◌, ℕ, zero, suc, ◌+◌, ◌≤◌, eqb, leb, length, get_or, replicate, Ok, Err}
 use Rattle.std.proofs.Math.Bool.{true}
 use Rattle.std.proofs.Math.Path.{refl}
 use Rattle.std.proofs.Common.{ap, ◌∙◌, lt_of_not-le, arith, length-set, get_or-set_other}
@@ -8,14 +8,11 @@ use Rattle.std.proofs.lemmas.List.{length-replicate}
 use borrow.Author.Tests.{eq-eqb, le-leb}
 use Rattle.words.specs.BytesLaws.{get_d_zeros}
 use Rattle.words.specs.Pick.{pick}
-use Rattle.geometry.specs.declared.config.Gated.{Gated}
-use Rattle.geometry.specs.declared.config.Gated.TheVariants as gated
-use Rattle.geometry.specs.Config.{Configured, maximum}
+use Rattle.geometry.specs.Config.{Gated, Configured, maximum}
 use Rattle.geometry.specs.Elastic.{total, levels_of, lengths_of, length_at, offset_at, split, is_plan_of}
 use Rattle.geometry.specs.ElasticLaws.{lengths_total}
 use Rattle.elastic.specs.declared.state.Limits.{Limits}
 use Rattle.elastic.specs.declared.state.State.{State}
-use Rattle.elastic.specs.declared.state.Opened.TheVariants as opening
 use Rattle.elastic.specs.State.{counts_within, counts_fit, state_fits, setting_gate, open_gate, gate_of, OpenDone, opened, open_by, open_of}
 use Rattle.elastic.specs.StateLaws.{demand_facts, both_on, open_facts}
 use Rattle.elastic.specs.Reading.{vacant_at}
@@ -51,13 +48,13 @@ total_within (l ∷ ls) (c ∷ cs) h = omega (arith, h 0, total_within ls cs (λ
 -- ---- what lasts
 
 open_settings : (n e seed : ℕ) (limits : Limits) (cs ws fs : List ℕ) (st : State) (cs' ws' fs' : List ℕ)
-    → open_of n e seed limits cs ws fs ≡ opened (opening.Open st) cs' ws' fs' → setting_gate n e limits ≡ gated.Passed
+    → open_of n e seed limits cs ws fs ≡ opened (Ok st) cs' ws' fs' → setting_gate n e limits ≡ Ok tt
 unfolding open_of open_by open_gate
 open_settings n e seed limits cs ws fs st cs' ws' fs' h = go (open_gate n e limits (length ws) (length fs)) refl h
   where
-    go : (g : Gated) → open_gate n e limits (length ws) (length fs) ≡ g → open_by g n e seed limits cs ws fs ≡ opened (opening.Open st) cs' ws' fs' → setting_gate n e limits ≡ gated.Passed
-    go (gated.Refused g) q k = let a = ap (λ (d : OpenDone). d.answer) k in let z : ◌≡◌ {A = ℕ} 0 1 = cc in absurd (omega arith)
-    go gated.Passed q k = (demand_facts _ _ _ q).0
+    go : (g : Gated) → open_gate n e limits (length ws) (length fs) ≡ g → open_by g n e seed limits cs ws fs ≡ opened (Ok st) cs' ws' fs' → setting_gate n e limits ≡ Ok tt
+    go (Err g) q k = let a = ap (λ (d : OpenDone). d.answer) k in let z : ◌≡◌ {A = ℕ} 0 1 = cc in absurd (omega arith)
+    go (Ok _) q k = (demand_facts _ _ _ q).0
 
 lasting_outcome : (st : State) (cs ws fs : List ℕ) (id : ℕ) → Lasting st cs ws → (d : Done) → Outcome st cs ws fs id d → Lasting d.st d.counts d.words
 lasting_outcome st cs ws fs id l d (kept r h) = l
@@ -96,7 +93,7 @@ module _ {n e seed : ℕ} {limits : Limits} {st : State} {cs ws fs : List ℕ} (
       go (no h) = omega (arith, (reached_kept r).counts.levels k (lt_of_not-le h), occupied_most fs (offset_at st.n k) (length_at st.n k))
 
   -- Every table that insertions reach from fresh passes its tests.
-  pub reached_gate : gate_of st cs (length ws) (length fs) ≡ gated.Passed
+  pub reached_gate : gate_of st cs (length ws) (length fs) ≡ Ok tt
   unfolding gate_of state_fits is_plan_of counts_fit lengths_of
   reached_gate =
       let l = reached_lasting r in

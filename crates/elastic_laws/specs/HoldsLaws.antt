@@ -1,11 +1,10 @@
 -- Laws of the slots that hold an identity: after a slot is written, and where a scan finds none. Assumes nothing.
-use Rattle.std.specs.Prelude.{Bool, true, false, List, ◌≡◌, refl, ℕ, zero, suc, ◌+◌, ◌≤◌, ◌<◌, eqb, length, get_or, set}
+use Rattle.std.specs.Prelude.{Bool, true, false, List, ◌≡◌, refl, ℕ, zero, suc, ◌+◌, ◌≤◌, ◌<◌, eqb, length, get_or, set, Some, None}
 use Rattle.std.proofs.Common.{sym, ap, ◌∙◌, lt_of_not-le, arith, get_or-set_same, get_or-set_other, eq-eqb, eqb-true}
 use Rattle.std.proofs.Math.Decide.{dec_le}
 use Rattle.std.proofs.Math.ListN.{get_or-eq_default}
 use Rattle.std.proofs.lemmas.Bool.{eqb-false}
 use Rattle.words.specs.Pick.{pick}
-use Rattle.elastic.specs.declared.route.Located.TheVariants as located
 use Rattle.elastic.specs.Reading.{holds_at, first_from, first_of}
 use Rattle.elastic.specs.ReadingLaws.{holds_vacant, holds_word}
 use Rattle.elastic_insert.specs.TableLaws.{never}
@@ -34,13 +33,13 @@ module _ (ws fs : List ℕ) (x t : ℕ) (lw : t < length ws) (lf : t < length fs
   holds_only_written id h = sym (get_or-set_same ws t x 0 lw) ∙ holds_id (set ws t x) (set fs t 1) id t h
 
 -- an identity that a scan did not find is nowhere
-first_nowhere : (ws fs : List ℕ) (id tries slot : ℕ) → first_from ws fs id tries slot ≡ located.Nowhere → (s : ℕ) → slot ≤ s → s < slot + tries → holds_at ws fs id s ≡ false
+first_nowhere : (ws fs : List ℕ) (id tries slot : ℕ) → first_from ws fs id tries slot ≡ None → (s : ℕ) → slot ≤ s → s < slot + tries → holds_at ws fs id s ≡ false
 unfolding first_from
 first_nowhere ws fs id zero slot h s a b = absurd (omega arith)
 first_nowhere ws fs id (suc tries) slot h s a b = go (holds_at ws fs id slot) refl h (λ g d. first_nowhere ws fs id tries (slot + 1) g s d (omega arith))
   where
-    go : (x : Bool) → holds_at ws fs id slot ≡ x → pick x (located.At slot) (first_from ws fs id tries (slot + 1)) ≡ located.Nowhere
-        → (first_from ws fs id tries (slot + 1) ≡ located.Nowhere → slot + 1 ≤ s → holds_at ws fs id s ≡ false) → holds_at ws fs id s ≡ false
+    go : (x : Bool) → holds_at ws fs id slot ≡ x → pick x (Some slot) (first_from ws fs id tries (slot + 1)) ≡ None
+        → (first_from ws fs id tries (slot + 1) ≡ None → slot + 1 ≤ s → holds_at ws fs id s ≡ false) → holds_at ws fs id s ≡ false
     go true e g on = never (cc)
     go false e g on = by (eqb s slot) refl
       where
@@ -51,7 +50,7 @@ first_nowhere ws fs id (suc tries) slot h s a b = go (holds_at ws fs id slot) re
             further : (s ≡ slot → ⊥) → slot + 1 ≤ s
             further q = omega arith
 
-pub nowhere : (ws fs : List ℕ) (id : ℕ) → length fs ≡ length ws → first_of ws fs id ≡ located.Nowhere → (s : ℕ) → holds_at ws fs id s ≡ false
+pub nowhere : (ws fs : List ℕ) (id : ℕ) → length fs ≡ length ws → first_of ws fs id ≡ None → (s : ℕ) → holds_at ws fs id s ≡ false
 unfolding first_of
 nowhere ws fs id l h s = go (dec_le (length fs) s)
   where

@@ -3,8 +3,7 @@ use Rattle.std.specs.Prelude.{List, [], ◌∷◌, ◌≡◌, ℕ, zero, suc, �
 use Rattle.geometry.specs.Config.{Configured, maximum}
 use Rattle.geometry.specs.Elastic.{total, lengths_of, length_at, ceil_three_quarters, uncut_quotas, batch_of}
 use Rattle.elastic.specs.declared.state.State.{State}
-use Rattle.elastic_steps.specs.declared.answer.InsertAnswer.{InsertAnswer}
-use Rattle.elastic_steps.specs.Insert.{insert_of}
+use Rattle.elastic_steps.specs.Insert.{InsertAnswer, insert_of}
 
 -- ---- limits
 

@@ -1,5 +1,5 @@
 -- Laws of phi in one word, by spread bits, marks and a shift: the answers in turn. Assumes nothing.
-use Rattle.std.specs.Prelude.{Bool, true, ◌≡◌, refl, ℕ, zero, suc, ◌+◌, ◌*◌, ◌-◌, ◌%◌, ◌^◌, ◌≤◌, ◌<◌, eqb}
+use Rattle.std.specs.Prelude.{Bool, true, ◌≡◌, refl, ℕ, zero, suc, ◌+◌, ◌*◌, ◌-◌, ◌%◌, ◌^◌, ◌≤◌, ◌<◌, eqb, Ok, Err}
 use Rattle.std.proofs.Math.Path.{ap, sym}
 use Rattle.std.proofs.Common.{◌∙◌, pow-suc, mod-eq_of_lt, mul-le-mul_left, add-one, pow_pos}
 use native.Mathlib.Omega.{arith}
@@ -14,7 +14,7 @@ use Rattle.elastic_probe.specs.Spread.{spread_of}
 use Rattle.elastic_probe.specs.SpreadLaws.{marks, pairs_spread, spread_more, more, all_below, all_at}
 use Rattle.elastic_probe.specs.Position.{bounded_of}
 use Rattle.elastic_probe.specs.declared.phi.Coordinate.TheVariants.{I, J}
-use Rattle.elastic_probe.specs.declared.phi.Bounded.TheVariants.{At, Coord, Overflow}
+use Rattle.elastic_probe.specs.declared.phi.PhiRefusal.TheVariants.{Coord, Overflow}
 
 unfoldable marks_test : ℕ → Bool
 unfolding marks
@@ -61,29 +61,29 @@ module _ (i j a b : ℕ) (hi : 0 < i) (hj : 0 < j) (ej : a ≡ bits_of j) (ei : 
       rw (mod-eq_of_lt m) (or_shifted (pairs a j) (b + 1) i low) ∙ sym phi_is
 
 -- the answers in turn
-pub bounded_i : (i j : ℕ) → i ≡ 0 → Coord I ≡ bounded_of i j
+pub bounded_i : (i j : ℕ) → i ≡ 0 → Err (Coord I) ≡ bounded_of i j
 unfolding bounded_of
 bounded_i i j e = sym (rw (eq-eqb i 0 e))
 
 module _ (i j : ℕ) (ni : i ≡ 0 → ⊥) where
-  pub bounded_j : j ≡ 0 → Coord J ≡ bounded_of i j
+  pub bounded_j : j ≡ 0 → Err (Coord J) ≡ bounded_of i j
   unfolding bounded_of
   bounded_j e = sym (rw (ne_eqb i 0 ni, eq-eqb j 0 e))
 
   module _ (nj : j ≡ 0 → ⊥) where
-    pub bounded_big : 65535 < j → Overflow ≡ bounded_of i j
+    pub bounded_big : 65535 < j → Err Overflow ≡ bounded_of i j
     unfolding bounded_of
     bounded_big h = sym (rw (ne_eqb i 0 ni, ne_eqb j 0 nj, lt-ltb 65535 j h))
 
     module _ (h : j ≤ 65535) where
-      pub bounded_over : (a b : ℕ) → a ≡ bits_of j → b ≡ bits_of i → 64 < 2 * a + 1 + b → Overflow ≡ bounded_of i j
+      pub bounded_over : (a b : ℕ) → a ≡ bits_of j → b ≡ bits_of i → 64 < 2 * a + 1 + b → Err Overflow ≡ bounded_of i j
       unfolding bounded_of
       bounded_over a b ej ei l =
           let m = phi_over 64 i j (omega arith) (omega arith) (omega arith) in
           sym (rw (ne_eqb i 0 ni, ne_eqb j 0 nj, le-ltb 65535 j h, le-ltb (phi i j) (2 ^ 64) m))
 
       pub bounded_is : (a b s : ℕ) → a ≡ bits_of j → b ≡ bits_of i → s ≡ spread_of 16 j → 2 * a + 1 + b ≤ 64
-          → At (bit_or ((s + 0xaaaaaaaa % (1 * 2 ^ (2 * a) % 2 ^ 64)) * 2 ^ (b + 1) % 2 ^ 64) i) ≡ bounded_of i j
+          → Ok (bit_or ((s + 0xaaaaaaaa % (1 * 2 ^ (2 * a) % 2 ^ 64)) * 2 ^ (b + 1) % 2 ^ 64) i) ≡ bounded_of i j
       unfolding bounded_of
       bounded_is a b s ej ei es l =
           let pi : 0 < i = omega arith in
@@ -91,7 +91,7 @@ module _ (i j : ℕ) (ni : i ≡ 0 → ⊥) where
           let p : s + 0xaaaaaaaa % (1 * 2 ^ (2 * a) % 2 ^ 64) ≡ pairs a j = rw es (pairs_by j a pj (omega arith) ej) in
           let v : bit_or ((s + 0xaaaaaaaa % (1 * 2 ^ (2 * a) % 2 ^ 64)) * 2 ^ (b + 1) % 2 ^ 64) i ≡ phi i j = rw p (value i j a b pi pj ej ei l) in
           let m = phi_fits 64 i j pi pj (omega arith) in
-          ap At v ∙ sym (rw (ne_eqb i 0 ni, ne_eqb j 0 nj, le-ltb 65535 j h, lt-ltb (phi i j) (2 ^ 64) m))
+          ap Ok v ∙ sym (rw (ne_eqb i 0 ni, ne_eqb j 0 nj, le-ltb 65535 j h, lt-ltb (phi i j) (2 ^ 64) m))
 
       pub bounded_sum : (a b s : ℕ) → a ≡ bits_of j → b ≡ bits_of i → s ≡ spread_of 16 j → 2 * a + 1 + b ≤ 64 → s + 0xaaaaaaaa % (1 * 2 ^ (2 * a) % 2 ^ 64) < 2 ^ 64
       bounded_sum a b s ej ei es l = rw (es, pairs_by j a (omega arith) (omega arith) ej) (pairs_word i j a b (omega arith) (omega arith) ej ei l)

@@ -1,5 +1,5 @@
 -- Laws of the budget: its answers in turn, and its bound in an elastic table. Assumes nothing.
-use Rattle.std.specs.Prelude.{◌≡◌}
+use Rattle.std.specs.Prelude.{◌≡◌, Ok, Err}
 use Rattle.std.proofs.Math.Path.{sym}
 use Rattle.std.proofs.Common.{ap, ◌∙◌, pow-suc, mul-le-mul, mul-le-mul_left, one-mul, div-le_self, arith}
 use Prim.Native.Nat.{ℕ, ◌+◌, ◌-◌, ◌*◌, ◌/◌, ◌%◌, ◌^◌, ◌≤◌, ◌<◌, min}
@@ -11,7 +11,7 @@ use Rattle.words.specs.LogLaws.{log_leading, log_computed}
 use Rattle.words.specs.Quotient.{ceil_div}
 use Rattle.words.specs.QuotientLaws.{ceil_floor}
 use Rattle.elastic_probe.specs.Budget.{probes_of, budget_of}
-use Rattle.elastic_probe.specs.declared.budget.Budgeted.TheVariants.{Probes, Budget}
+use Rattle.elastic_probe.specs.declared.budget.BudgetRefusal.TheVariants.{Free, Factor, Product}
 
 squared : (x : ℕ) → x * x ≡ x ^ 2
 squared x = sym (pow-suc x 1 ∙ ap (λ (y : ℕ). y * x) (pow-suc x 0 ∙ ap (λ (y : ℕ). y * x) (pow-zero x) ∙ one-mul x))
@@ -43,38 +43,38 @@ probes_steps free level e c log capped hf hl hw p m =
 -- ---- the answers in turn
 
 module _ (free level e c : ℕ) where
-  pub budget_none : free ≡ 0 → Budget 1 ≡ budget_of free level e c
+  pub budget_none : free ≡ 0 → Err Free ≡ budget_of free level e c
   unfolding budget_of
   budget_none h = sym (rw (eq-eqb free 0 h))
 
   module _ (nf : free ≡ 0 → ⊥) where
-    pub budget_above : level < free → Budget 1 ≡ budget_of free level e c
+    pub budget_above : level < free → Err Free ≡ budget_of free level e c
     unfolding budget_of
     budget_above h = sym (rw (ne_eqb free 0 nf, lt-ltb level free h))
 
     module _ (hl : free ≤ level) where
-      pub budget_zero : c ≡ 0 → Budget 2 ≡ budget_of free level e c
+      pub budget_zero : c ≡ 0 → Err Factor ≡ budget_of free level e c
       unfolding budget_of
       budget_zero h = sym (rw (ne_eqb free 0 nf, le-ltb level free hl, eq-eqb c 0 h))
 
       module _ (nc : c ≡ 0 → ⊥) where
-        pub budget_over : 2 ^ 64 ≤ probes_of free level e c → Budget 3 ≡ budget_of free level e c
+        pub budget_over : 2 ^ 64 ≤ probes_of free level e c → Err Product ≡ budget_of free level e c
         unfolding budget_of
         budget_over h = sym (rw (ne_eqb free 0 nf, le-ltb level free hl, ne_eqb c 0 nc, le-ltb (probes_of free level e c) (2 ^ 64) h))
 
-        pub budget_probes : probes_of free level e c < 2 ^ 64 → Probes (probes_of free level e c) ≡ budget_of free level e c
+        pub budget_probes : probes_of free level e c < 2 ^ 64 → Ok (probes_of free level e c) ≡ budget_of free level e c
         unfolding budget_of
         budget_probes h = sym (rw (ne_eqb free 0 nf, le-ltb level free hl, ne_eqb c 0 nc, lt-ltb (probes_of free level e c) (2 ^ 64) h))
 
         -- the two ends of the code, by the halves of the product
         module _ (product : ℕ) (is : product ≡ probes_of free level e c) where
-          pub budget_high : (high : ℕ) → high ≡ product / 2 ^ 64 → 0 < high → Budget 3 ≡ budget_of free level e c
+          pub budget_high : (high : ℕ) → high ≡ product / 2 ^ 64 → 0 < high → Err Product ≡ budget_of free level e c
           budget_high high d h = budget_over (omega arith)
 
-          pub budget_low : (high low : ℕ) → high ≡ product / 2 ^ 64 → low ≡ product % 2 ^ 64 → high ≤ 0 → Probes low ≡ budget_of free level e c
+          pub budget_low : (high low : ℕ) → high ≡ product / 2 ^ 64 → low ≡ product % 2 ^ 64 → high ≤ 0 → Ok low ≡ budget_of free level e c
           budget_low high low d m h =
               let z : low ≡ probes_of free level e c = omega arith in
-              ap Probes z ∙ budget_probes (omega arith)
+              ap Ok z ∙ budget_probes (omega arith)
 
 -- ---- in an elastic table: of at most 2 ^ 32 slots, with c * min(e, 1024) at most 8,192
 
@@ -93,5 +93,5 @@ module _ (free level e c : ℕ) (hf : 0 < free) (hl : free ≤ level) (few : lev
       le_trans (mul-le-mul_left c m) limit
 
   -- so there is no refusal
-  pub budget_in_table : Probes (probes_of free level e c) ≡ budget_of free level e c
+  pub budget_in_table : Ok (probes_of free level e c) ≡ budget_of free level e c
   budget_in_table = budget_probes free level e c (λ z. omega arith) hl (λ z. omega arith) (omega (arith, probes_most))

@@ -1,5 +1,5 @@
 -- Laws of what phi and its inverse answer, as their code goes. Assumes nothing.
-use Rattle.std.specs.Prelude.{◌≡◌}
+use Rattle.std.specs.Prelude.{◌≡◌, Some, None, Ok, Err}
 use Rattle.std.proofs.Math.Path.{refl, ap, sym}
 use Rattle.std.proofs.Common.{◌∙◌, pow-suc, div-add-mod', lt_of_not-le, mul-le-mul_right, add-one, pow_pos, pow_mono}
 use Prim.Native.Nat.{ℕ, zero, suc, ◌+◌, ◌*◌, ◌-◌, ◌/◌, ◌%◌, ◌^◌, ◌≤◌, ◌<◌}
@@ -14,11 +14,10 @@ use Rattle.elastic_probe.specs.Phi.{pairs, phi, gap, parse, start, coords_of}
 use Rattle.elastic_probe.specs.PhiLaws.{pairs_last, parse_low, parse_last, parse_bit, phi_over, phi_fits}
 use Rattle.elastic_probe.specs.Wide.{wide_of}
 use Rattle.elastic_probe.specs.WideLaws.{wide_is}
-use Rattle.elastic_probe.specs.Position.{position_of, told, coordinates_of}
+use Rattle.elastic_probe.specs.Position.{position_of, coordinates, told, coordinates_of}
 use Rattle.words.specs.declared.product.Wide.{Wide}
 use Rattle.elastic_probe.specs.declared.phi.Coordinate.TheVariants.{I, J}
-use Rattle.elastic_probe.specs.declared.phi.Position.TheVariants as position
-use Rattle.elastic_probe.specs.declared.phi.Coordinates.TheVariants as coordinates
+use Rattle.elastic_probe.specs.declared.phi.PhiRefusal.TheVariants.{Coord, Overflow}
 
 -- ---- the pairs of j, put one after the other before the places that hold x: `rest` is left of j, and `out` holds what is below place `at`
 
@@ -65,7 +64,7 @@ module _ (x place j out at rest : ℕ) (p : Placed x place j out at rest) where
 -- ---- phi in two words
 
 module _ (i j : ℕ) where
-  pub position_i : bits_of i ≡ 0 → position.Coord I ≡ position_of i j
+  pub position_i : bits_of i ≡ 0 → Err (Coord I) ≡ position_of i j
   unfolding position_of
   position_i e = sym (rw (eq-eqb i 0 (bits_none i e)))
 
@@ -73,7 +72,7 @@ module _ (i j : ℕ) where
     not_i : i ≡ 0 → ⊥
     not_i e = ni (bits_zero i e)
 
-    pub position_j : bits_of j ≡ 0 → position.Coord J ≡ position_of i j
+    pub position_j : bits_of j ≡ 0 → Err (Coord J) ≡ position_of i j
     unfolding position_of
     position_j e = sym (rw (ne_eqb i 0 not_i, eq-eqb j 0 (bits_none j e)))
 
@@ -87,14 +86,14 @@ module _ (i j : ℕ) where
       j_pos : 0 < j
       j_pos = let n = not_j in omega arith
 
-      pub position_over : 128 < 2 * bits_of j + 1 + bits_of i → position.Overflow ≡ position_of i j
+      pub position_over : 128 < 2 * bits_of j + 1 + bits_of i → Err Overflow ≡ position_of i j
       unfolding position_of
       position_over l = sym (rw (ne_eqb i 0 not_i, ne_eqb j 0 not_j, le-ltb (phi i j) (2 ^ 128) (phi_over 128 i j i_pos j_pos l)))
 
-      pub position_at_lem : (w : Wide) → w.lo < 2 ^ 64 → 2 * bits_of j + 1 + bits_of i ≤ 128 → wide_of w ≡ pairs (bits_of j) j * 2 ^ (bits_of i + 1) + i → position.At w ≡ position_of i j
+      pub position_at_lem : (w : Wide) → w.lo < 2 ^ 64 → 2 * bits_of j + 1 + bits_of i ≤ 128 → wide_of w ≡ pairs (bits_of j) j * 2 ^ (bits_of i + 1) + i → Ok w ≡ position_of i j
       unfolding position_of phi
       position_at_lem w few l e =
-          ap position.At (wide_is w (phi i j) few e)
+          ap Ok (wide_is w (phi i j) few e)
           ∙ sym (rw (ne_eqb i 0 not_i, ne_eqb j 0 not_j, lt-ltb (phi i j) (2 ^ 128) (phi_fits 128 i j i_pos j_pos l)))
 
 -- ---- reading a position from the top: `left` bits are left, and j has been read, of t bits
@@ -125,11 +124,11 @@ top_pair p q d r lo hi e few = sym e ∙ ap (λ (n : ℕ). n * q + r) pair
     pair = omega (arith, two (dec_le 2 d), four (dec_le 4 d))
 
 module _ (p b : ℕ) (is : b ≡ bits_of p) where
-  pub reading_short : b < 2 → coordinates.Gap ≡ coordinates_of p
+  pub reading_short : b < 2 → None ≡ coordinates_of p
   unfolding coordinates_of coords_of start
   reading_short h = rw (← is) (go b h)
     where
-      go : (b : ℕ) → b < 2 → coordinates.Gap ≡ told (start b p)
+      go : (b : ℕ) → b < 2 → None ≡ told (start b p)
       go zero h = refl
       go (suc zero) h = refl
       go (suc (suc k)) h = absurd (omega arith)
@@ -155,7 +154,7 @@ module _ (p b : ℕ) (is : b ≡ bits_of p) where
         let hi : p < 2 * 2 ^ suc k = rw e at q.top.below in
         top_pair p (2 ^ k) (p / 2 ^ k) (p % 2 ^ k) (rw (pow-suc 2 k) at lo) (rw (pow-suc 2 k) at hi) (div-add-mod' p (2 ^ k)) (mod-lt p (pow_pos k))
 
-    pub reading_gap : p / 2 ^ (b - 2) % 2 ≡ 0 → coordinates.Gap ≡ coordinates_of p
+    pub reading_gap : p / 2 ^ (b - 2) % 2 ≡ 0 → None ≡ coordinates_of p
     unfolding coordinates_of coords_of start
     reading_gap e =
         let w : p ≡ (2 + 0) * 2 ^ (b - 2) + p % 2 ^ (b - 2) = rw e at whole in
@@ -176,7 +175,7 @@ module _ (p b : ℕ) (is : b ≡ bits_of p) where
         }
 
 module _ (p left j : ℕ) (r : Reading p left j) where
-  pub reading_end : left < 2 → coordinates.Gap ≡ coordinates_of p
+  pub reading_end : left < 2 → None ≡ coordinates_of p
   unfolding coordinates_of parse
   reading_end h = sym (ap told (r.same ∙ go left h))
     where
@@ -203,14 +202,14 @@ module _ (p left j : ℕ) (r : Reading p left j) where
     here = rw next at r.same
 
     module _ (marker : p / 2 ^ (k + 1) % 2 ≡ 0) where
-      pub reading_zero : p / 2 ^ k % 2 ≡ 0 → coordinates.Gap ≡ coordinates_of p
+      pub reading_zero : p / 2 ^ k % 2 ≡ 0 → None ≡ coordinates_of p
       unfolding coordinates_of
       reading_zero b =
           let e : p % 2 ^ suc (suc k) ≡ 0 * 2 ^ (k + 1) + (0 * 2 ^ k + p % 2 ^ k) = rw (marker, b) at pair in
           let s : p % 2 ^ suc (suc k) ≡ p % 2 ^ k = e ∙ omega arith in
           sym (ap told (here ∙ ap (λ (n : ℕ). parse (suc (suc k)) n j) s ∙ parse_low k (p % 2 ^ k) j rest_low))
 
-      pub reading_last : (w : Wide) → w.lo < 2 ^ 64 → (p / 2 ^ k % 2 ≡ 0 → ⊥) → wide_of w ≡ p % 2 ^ (k + 1) → coordinates.At w j ≡ coordinates_of p
+      pub reading_last : (w : Wide) → w.lo < 2 ^ 64 → (p / 2 ^ k % 2 ≡ 0 → ⊥) → wide_of w ≡ p % 2 ^ (k + 1) → Some (coordinates w j) ≡ coordinates_of p
       unfolding coordinates_of
       reading_last w few n e =
           let b : p / 2 ^ k % 2 ≡ 1 = omega arith in
@@ -218,7 +217,7 @@ module _ (p left j : ℕ) (r : Reading p left j) where
           let f : p % 2 ^ suc (suc k) ≡ 0 * 2 ^ (k + 1) + (1 * 2 ^ k + p % 2 ^ k) = rw (marker, b) at pair in
           let s : p % 2 ^ suc (suc k) ≡ 2 ^ k + p % 2 ^ k = f ∙ omega arith in
           let u : wide_of w ≡ 2 ^ k + p % 2 ^ k = e ∙ i ∙ omega arith in
-          ap (λ (x : Wide). coordinates.At x j) (wide_is w (2 ^ k + p % 2 ^ k) few u)
+          ap (λ (x : Wide). Some (coordinates x j)) (wide_is w (2 ^ k + p % 2 ^ k) few u)
           ∙ sym (ap told (here ∙ ap (λ (x : ℕ). parse (suc (suc k)) x j) s ∙ parse_last k (p % 2 ^ k) j rest_low))
 
     pub reading_place : k + 1 < 128

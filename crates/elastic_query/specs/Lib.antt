@@ -1,3 +1,4 @@
 pub mod Query
 pub mod QueryLaws
 pub mod QuerySteps
+pub mod Looking

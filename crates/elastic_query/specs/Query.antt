@@ -1,19 +1,21 @@
 -- The query: a walk along the positions 1, 2, .. up to the position cap. Assumes nothing.
-use Rattle.std.specs.Prelude.{Bool, true, false, List, [], ◌∷◌, ℕ, zero, suc, ◌+◌, ◌-◌, eqb, leb, length}
+use Rattle.std.specs.Prelude.{Bool, true, false, List, [], ◌∷◌, ℕ, zero, suc, ◌+◌, ◌-◌, eqb, leb, length, Result, Ok, Err}
 use Rattle.refusal.specs.Table.{name_of, Report, answered, refused}
 use Rattle.refusal.specs.declared.Name.TheVariants as name
 use Rattle.words.specs.Pick.{pick}
-use Rattle.geometry.specs.declared.config.Gated.{Gated}
-use Rattle.geometry.specs.declared.config.Gated.TheVariants as gated
+use Rattle.geometry.specs.Config.{Gated}
 use Rattle.elastic_probe.specs.Phi.{Coords, gap, at, coords_of}
 use Rattle.probe.specs.Word.{elastic_key_of}
 use Rattle.elastic.specs.declared.state.State.{State}
-use Rattle.elastic.specs.declared.route.Reading.{Reading}
-use Rattle.elastic.specs.declared.route.Reading.TheVariants as reading
-use Rattle.elastic_query.specs.declared.query.QueryAnswer.{QueryAnswer}
-use Rattle.elastic_query.specs.declared.query.QueryAnswer.TheVariants as answer
+use Rattle.elastic_query.specs.declared.query.Finding.{Finding}
+use Rattle.elastic_query.specs.declared.query.QueryRefusal.{QueryRefusal}
+use Rattle.elastic_query.specs.declared.query.QueryRefusal.TheVariants as refusal
 use Rattle.elastic.specs.State.{gate_of}
-use Rattle.elastic.specs.Reading.{reading_of, holds_at}
+use Rattle.elastic.specs.Reading.{Routed, reading_of, holds_at}
+
+-- what a query answers
+abbrev pub QueryAnswer : Type 0
+QueryAnswer = Result Finding QueryRefusal
 
 -- "a gap, or a level the table lacks": the coordinates of a position, where the table has that level
 abbrev pub within : (levels : ℕ) → Coords → Coords
@@ -63,18 +65,18 @@ counted c words s =
 -- a query's answer, as case I has it: position, global slot, mapped, gap, words
 abbrev pub found_at : (position slot : ℕ) → Tally → QueryAnswer
 found_at position slot t =
-    answer.Found (record { position = position; global_slot = record { 0 = slot }; mapped = t.mapped; gap = t.gaps; words = t.words })
+    Ok (record { position = position; global_slot = record { 0 = slot }; mapped = t.mapped; gap = t.gaps; words = t.words })
 
 -- one position, by what its reading says: refused, at the identity, or on to the later ones
-abbrev pub walk_by : (holds : ℕ → Bool) (position : ℕ) → Coords → Tally → Reading → (Tally → QueryAnswer) → QueryAnswer
-walk_by holds position c s (reading.Refused refusal) later = answer.Range refusal
-walk_by holds position c s (reading.Slot slot words) later =
-    pick (holds slot) (found_at position slot (counted c words s)) (later (counted c words s))
+abbrev pub walk_by : (holds : ℕ → Bool) (position : ℕ) → Coords → Tally → Routed → (Tally → QueryAnswer) → QueryAnswer
+walk_by holds position c s (Err range) later = Err (refusal.Range range)
+walk_by holds position c s (Ok reading) later =
+    pick (holds reading.slot) (found_at position reading.slot (counted c reading.words s)) (later (counted c reading.words s))
 
-module _ (route : ℕ → ℕ → Reading) (holds : ℕ → Bool) (levels : ℕ) where
+module _ (route : ℕ → ℕ → Routed) (holds : ℕ → Bool) (levels : ℕ) where
   -- "Query tries positions 1, 2, ..": so many from one on; ABSENT: "elastic query reached its position cap"
   unfoldable pub walk_of : (tries position : ℕ) → Tally → QueryAnswer
-  walk_of zero position s = answer.Absent
+  walk_of zero position s = Err refusal.Absent
   walk_of (suc tries) position s =
       walk_by holds position (within levels (coords_of position)) s
       (route (level_of (within levels (coords_of position))) (probe_of (within levels (coords_of position))))
@@ -89,8 +91,8 @@ look_of st ws fs id =
     positions_of (reading_of st.n (elastic_key_of st.seed id) st.limits.range_word_cap) (holds_at ws fs id) st.plan.levels st.limits.hit_query_position_cap
 
 abbrev pub query_by : Gated → State → List ℕ → List ℕ → (id : ℕ) → QueryAnswer
-query_by (gated.Refused g) st ws fs id = answer.Refused g
-query_by gated.Passed st ws fs id = look_of st ws fs id
+query_by (Err g) st ws fs id = Err (refusal.Gate g)
+query_by (Ok _) st ws fs id = look_of st ws fs id
 
 -- "Elastic query: RANGE as met, else 21", after 1 to 7
 unfoldable pub query_of : State → List ℕ → List ℕ → List ℕ → (id : ℕ) → QueryAnswer
@@ -98,7 +100,7 @@ query_of st cs ws fs id = query_by (gate_of st cs (length ws) (length fs)) st ws
 
 -- number and values of an answer
 unfoldable pub query_report : QueryAnswer → Report
-query_report (answer.Found q) = answered (q.position ∷ q.global_slot.0 ∷ q.mapped ∷ q.gap ∷ q.words ∷ [])
-query_report (answer.Range r) = refused name.Range (r.words ∷ [])
-query_report answer.Absent = refused name.Absent []
-query_report (answer.Refused g) = refused (name_of g) []
+query_report (Ok q) = answered (q.position ∷ q.global_slot.0 ∷ q.mapped ∷ q.gap ∷ q.words ∷ [])
+query_report (Err (refusal.Range r)) = refused name.Range (r.words ∷ [])
+query_report (Err refusal.Absent) = refused name.Absent []
+query_report (Err (refusal.Gate g)) = refused (name_of g) []

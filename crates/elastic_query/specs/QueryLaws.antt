@@ -1,5 +1,5 @@
 -- Laws of the query: the walk over all positions is that over the mapped ones, node by node. Assumes nothing.
-use Rattle.std.specs.Prelude.{Bool, true, false, List, ◌≡◌, refl, eqb, length}
+use Rattle.std.specs.Prelude.{Bool, true, false, List, ◌≡◌, refl, eqb, length, Ok, Err}
 use Rattle.std.proofs.Common.{ap, ◌∙◌, pow-suc, mul-le-mul_left, pow_mono, le-leb}
 use Rattle.std.proofs.Math.Path.{sym}
 use Prim.Native.Nat.{ℕ, zero, suc, ◌+◌, ◌*◌, ◌-◌, ◌/◌, ◌^◌, ◌≤◌, ◌<◌}
@@ -10,7 +10,6 @@ use Rattle.std.proofs.lemmas.Bool.{lt-leb}
 use Rattle.refusal.specs.declared.RangeRefusal.{RangeRefusal}
 use Rattle.refusal.specs.declared.Gate.{Gate}
 use Rattle.words.specs.Pick.{pick}
-use Rattle.geometry.specs.declared.config.Gated.TheVariants as gated
 use Rattle.geometry.specs.ElasticLaws.{levels_facts}
 use Rattle.elastic_probe.specs.Length.{bits_of, length_in}
 use Rattle.elastic_probe.specs.LengthLaws.{Top}
@@ -20,16 +19,12 @@ use Rattle.elastic_probe.specs.PhiLaws.{top_half, top_zero}
 use Rattle.elastic_probe.specs.TreeLaws.{Node, node_mapped, node_empty, node_root, node_pos, Next}
 use Rattle.probe.specs.Word.{elastic_key_of}
 use Rattle.elastic.specs.declared.state.State.{State}
-use Rattle.elastic.specs.declared.route.Reading.{Reading}
-use Rattle.elastic.specs.declared.route.Reading.TheVariants as reading
-use Rattle.elastic_query.specs.declared.query.QueryAnswer.{QueryAnswer}
-use Rattle.elastic_query.specs.declared.query.QueryAnswer.TheVariants as answer
-use Rattle.elastic_query.specs.declared.query.Scan.{Scan}
-use Rattle.elastic_query.specs.declared.query.Scan.TheVariants as scan
 use Rattle.elastic.specs.State.{gate_of, Valid}
-use Rattle.elastic.specs.Reading.{reading_of, holds_at, Probed}
-use Rattle.elastic_query.specs.Query.{within, walk_of, positions_of, look_of, query_of}
-use Rattle.elastic_query.specs.QuerySteps.{from, charged, Missed, Fine, Scanned, Queried, Scanning, Visiting, end_of}
+use Rattle.elastic.specs.Reading.{read_slot, Routed, reading_of, holds_at, Probed}
+use Rattle.std.proofs.Common.{Continue, Break}
+use Rattle.elastic_query.specs.declared.query.QueryRefusal.TheVariants as refusal
+use Rattle.elastic_query.specs.Query.{QueryAnswer, within, walk_of, positions_of, look_of, query_of}
+use Rattle.elastic_query.specs.QuerySteps.{from, cost, Scan, charged, Missed, Fine, Scanned, Queried, Scanning, Visiting, end_of}
 
 -- ---- the walk, position by position
 
@@ -53,8 +48,8 @@ same : (x : Bool) → pick x true true ≡ true
 same true = refl
 same false = refl
 
-module _ (route : ℕ → ℕ → Reading) (holds : ℕ → Bool) (levels cap : ℕ) where
-  pub from_end : (p m w : ℕ) → cap < p → from route holds levels cap p m w ≡ answer.Absent
+module _ (route : ℕ → ℕ → Routed) (holds : ℕ → Bool) (levels cap : ℕ) where
+  pub from_end : (p m w : ℕ) → cap < p → from route holds levels cap p m w ≡ Err refusal.Absent
   unfolding from walk_of
   from_end p m w h = let e : cap + 1 - p ≡ 0 = omega arith in rw e
 
@@ -87,11 +82,11 @@ module _ (route : ℕ → ℕ → Reading) (holds : ℕ → Bool) (levels cap : 
 
   -- a mapped position
   module _ (p m w i j : ℕ) (l : p ≤ cap) (h : m < p) (e : within levels (coords_of p) ≡ at i j) where
-    from_refused : (r : RangeRefusal) → route (i - 1) (j - 1) ≡ reading.Refused r → from route holds levels cap p m w ≡ answer.Range r
+    from_refused : (r : RangeRefusal) → route (i - 1) (j - 1) ≡ Err r → from route holds levels cap p m w ≡ Err (refusal.Range r)
     unfolding from walk_of
     from_refused r n = rw (one_more p l, e, n)
 
-    module _ (slot words : ℕ) (is : route (i - 1) (j - 1) ≡ reading.Slot slot words) where
+    module _ (slot words : ℕ) (is : route (i - 1) (j - 1) ≡ Ok (read_slot slot words)) where
       from_miss : holds slot ≡ false → from route holds levels cap p m w ≡ from route holds levels cap (p + 1) (m + 1) (w + charged i j words)
       unfolding from walk_of charged
       from_miss n =
@@ -99,7 +94,7 @@ module _ (route : ℕ → ℕ → Reading) (holds : ℕ → Bool) (levels cap : 
           rw (one_more p l, e, is, n, same (eqb (i - 1 + (j - 1)) 0), g)
 
       from_hit : holds slot ≡ true
-          → from route holds levels cap p m w ≡ answer.Found (record { position = p; global_slot = record { 0 = slot }; mapped = m + 1; gap = p - (m + 1); words = w + charged i j words })
+          → from route holds levels cap p m w ≡ Ok (record { position = p; global_slot = record { 0 = slot }; mapped = m + 1; gap = p - (m + 1); words = w + charged i j words })
       unfolding from walk_of charged
       from_hit n =
           let g : p - 1 - m ≡ p - (m + 1) = omega arith in
@@ -107,20 +102,20 @@ module _ (route : ℕ → ℕ → Reading) (holds : ℕ → Bool) (levels cap : 
 
   -- a visit of a mapped position
   module _ (p i j m w : ℕ) (v : Visiting levels cap p i j m w) where
-    pub visit_refused : (r : RangeRefusal) → route (i - 1) (j - 1) ≡ reading.Refused r
-        → Scanned (from route holds levels cap p m w) (scan.Ends (answer.Range r)) (λ m w. from route holds levels cap (p + 1) m w) (p + 1)
+    pub visit_refused : (r : RangeRefusal) → route (i - 1) (j - 1) ≡ Err r
+        → Scanned (from route holds levels cap p m w) (Break (Err (refusal.Range r))) (λ m w. from route holds levels cap (p + 1) m w) (p + 1)
     visit_refused r n = record { same = from_refused p m w i j v.near v.fine.few v.is r n; fine = tt }
 
-    module _ (slot words extra : ℕ) (is : route (i - 1) (j - 1) ≡ reading.Slot slot words) (x : extra ≡ charged i j words) where
+    module _ (slot words extra : ℕ) (is : route (i - 1) (j - 1) ≡ Ok (read_slot slot words)) (x : extra ≡ charged i j words) where
       pub visit_hit : holds slot ≡ true
           → Scanned (from route holds levels cap p m w)
-          (scan.Ends (answer.Found (record { position = p; global_slot = record { 0 = slot }; mapped = m + 1; gap = p - (m + 1); words = w + extra })))
+          (Break (Ok (record { position = p; global_slot = record { 0 = slot }; mapped = m + 1; gap = p - (m + 1); words = w + extra })))
           (λ m w. from route holds levels cap (p + 1) m w)
           (p + 1)
       visit_hit n = record { same = rw x (from_hit p m w i j v.near v.fine.few v.is slot words is n); fine = tt }
 
       pub visit_miss : extra ≤ 8 → holds slot ≡ false
-          → Scanned (from route holds levels cap p m w) (scan.On (m + 1) (w + extra)) (λ m w. from route holds levels cap (p + 1) m w) (p + 1)
+          → Scanned (from route holds levels cap p m w) (Continue (cost (m + 1) (w + extra))) (λ m w. from route holds levels cap (p + 1) m w) (p + 1)
       visit_miss few n =
           let f = v.fine in
           record {
@@ -133,13 +128,13 @@ module _ (route : ℕ → ℕ → Reading) (holds : ℕ → Bool) (levels cap : 
     positive : cap ≡ suc (cap - 1)
     positive = omega arith
 
-    pub first_refused : (r : RangeRefusal) → route 0 0 ≡ reading.Refused r → answer.Range r ≡ positions_of route holds levels cap
+    pub first_refused : (r : RangeRefusal) → route 0 0 ≡ Err r → Err (refusal.Range r) ≡ positions_of route holds levels cap
     unfolding positions_of walk_of
     first_refused r n = sym (rw (positive, one_gap, n))
 
-    module _ (slot words : ℕ) (is : route 0 0 ≡ reading.Slot slot words) where
+    module _ (slot words : ℕ) (is : route 0 0 ≡ Ok (read_slot slot words)) where
       pub first_hit : holds slot ≡ true
-          → answer.Found (record { position = 1; global_slot = record { 0 = slot }; mapped = 0; gap = 1; words = words }) ≡ positions_of route holds levels cap
+          → Ok (record { position = 1; global_slot = record { 0 = slot }; mapped = 0; gap = 1; words = words }) ≡ positions_of route holds levels cap
       unfolding positions_of walk_of
       first_hit n = sym (rw (positive, one_gap, is, n, zero-add words))
 
@@ -229,13 +224,13 @@ node_probe b j q n four h = go (dec_le j 8192)
 -- ---- a scan of a node, as a loop makes it
 
 -- the walk from the node's start is that from where i is tried
-pub record Going (route : ℕ → ℕ → Reading) (holds : ℕ → Bool) (levels cap b q m₀ w₀ i m w : ℕ) : Type 0 where
+pub record Going (route : ℕ → ℕ → Routed) (holds : ℕ → Bool) (levels cap b q m₀ w₀ i m w : ℕ) : Type 0 where
   pub same : from route holds levels cap b m₀ w₀ ≡ from route holds levels cap (b + i) m w
   pub lo : q / 4 ≤ i
   pub hi : i ≤ 2 * (q / 4)
   pub fine : Fine (b + i) m w
 
-module _ (route : ℕ → ℕ → Reading) (holds : ℕ → Bool) (levels cap b j q m₀ w₀ : ℕ) (n : Node b j q) where
+module _ (route : ℕ → ℕ → Routed) (holds : ℕ → Bool) (levels cap b j q m₀ w₀ : ℕ) (n : Node b j q) where
   pub going_start : Missed route holds 0 0 → Fine b m₀ w₀ → Going route holds levels cap b q m₀ w₀ (q / 4) m₀ w₀
   going_start miss f =
       record {
@@ -247,7 +242,7 @@ module _ (route : ℕ → ℕ → Reading) (holds : ℕ → Bool) (levels cap b 
 
   module _ (i m w : ℕ) (g : Going route holds levels cap b q m₀ w₀ i m w) where
     pub going_end : Missed route holds 0 0 → end_of levels cap b q ≤ i → b ≤ cap
-        → Scanned (from route holds levels cap b m₀ w₀) (scan.On m w) (λ m w. from route holds levels cap (b + 2 * (q / 4)) m w) (b + 2 * (q / 4))
+        → Scanned (from route holds levels cap b m₀ w₀) (Continue (cost m w)) (λ m w. from route holds levels cap (b + 2 * (q / 4)) m w) (b + 2 * (q / 4))
     going_end miss l near =
         let u = g.hi in
         let f = g.fine in
@@ -267,14 +262,14 @@ module _ (route : ℕ → ℕ → Reading) (holds : ℕ → Bool) (levels cap b 
             ∙ sym (from_end route holds levels cap (b + 2 * (q / 4)) m w (omega arith))
 
 -- a visit of the position where i is tried
-module _ {route : ℕ → ℕ → Reading} {holds : ℕ → Bool} {levels cap b q m₀ w₀ i m w : ℕ} (g : Going route holds levels cap b q m₀ w₀ i m w) (r : Scan)
+module _ {route : ℕ → ℕ → Routed} {holds : ℕ → Bool} {levels cap b q m₀ w₀ i m w : ℕ} (g : Going route holds levels cap b q m₀ w₀ i m w) (r : Scan)
     (z : Scanned (from route holds levels cap (b + i) m w) r (λ m w. from route holds levels cap (b + i + 1) m w) (b + i + 1))
   where
-    pub going_ends : (a : QueryAnswer) → r ≡ scan.Ends a
-        → Scanned (from route holds levels cap b m₀ w₀) (scan.Ends a) (λ m w. from route holds levels cap (b + 2 * (q / 4)) m w) (b + 2 * (q / 4))
+    pub going_ends : (a : QueryAnswer) → r ≡ Break a
+        → Scanned (from route holds levels cap b m₀ w₀) (Break a) (λ m w. from route holds levels cap (b + 2 * (q / 4)) m w) (b + 2 * (q / 4))
     going_ends a e = record { same = g.same ∙ z.same ∙ rw e; fine = tt }
 
-    pub going_on : (x y : ℕ) → r ≡ scan.On x y → i < 2 * (q / 4) → Going route holds levels cap b q m₀ w₀ (i + 1) x y
+    pub going_on : (x y : ℕ) → r ≡ Continue (cost x y) → i < 2 * (q / 4) → Going route holds levels cap b q m₀ w₀ (i + 1) x y
     going_on x y e hi =
         let s : b + i + 1 ≡ b + (i + 1) = omega arith in
         let f : Fine (b + i + 1) x y = rw e at z.fine in
@@ -291,11 +286,11 @@ pub queried_probed : {n last word_cap cap words flags : ℕ} → Queried n last 
 queried_probed k level h = record { least = k.least; most = k.most; last_is = k.last_is; has = h; few = k.few }
 
 -- the loop's invariant
-pub record Turn (route : ℕ → ℕ → Reading) (holds : ℕ → Bool) (levels cap b q m₀ w₀ end i m w : ℕ) : Type 0 where
+pub record Turn (route : ℕ → ℕ → Routed) (holds : ℕ → Bool) (levels cap b q m₀ w₀ end i m w : ℕ) : Type 0 where
   pub going : Going route holds levels cap b q m₀ w₀ i m w
   pub stop : end ≡ end_of levels cap b q
 
-module _ {route : ℕ → ℕ → Reading} {holds : ℕ → Bool} {levels cap b q m₀ w₀ end i m w : ℕ} (t : Turn route holds levels cap b q m₀ w₀ end i m w) (l : i < end) where
+module _ {route : ℕ → ℕ → Routed} {holds : ℕ → Bool} {levels cap b q m₀ w₀ end i m w : ℕ} (t : Turn route holds levels cap b q m₀ w₀ end i m w) (l : i < end) where
   pub turn_below : i < 2 * (q / 4)
   turn_below = let s = t.stop in omega arith
 
@@ -317,27 +312,27 @@ module _ {route : ℕ → ℕ → Reading} {holds : ℕ → Bool} {levels cap b 
 
 -- ---- the walk from node to node, as a loop makes it
 
-pub record Walked (route : ℕ → ℕ → Reading) (holds : ℕ → Bool) (levels cap spent b j q m w : ℕ) : Type 0 where
+pub record Walked (route : ℕ → ℕ → Routed) (holds : ℕ → Bool) (levels cap spent b j q m w : ℕ) : Type 0 where
   pub rest : from route holds levels cap 3 0 spent ≡ from route holds levels cap b m w
   pub node : Node b j q
   pub fine : Fine b m w
 
-module _ (route : ℕ → ℕ → Reading) (holds : ℕ → Bool) (levels cap spent : ℕ) where
+module _ (route : ℕ → ℕ → Routed) (holds : ℕ → Bool) (levels cap spent : ℕ) where
   pub walked_start : spent ≤ 8 → Walked route holds levels cap spent 3 1 1 0 spent
   walked_start h = record { rest = refl; node = node_root 0; fine = record { few = omega arith; low = omega arith } }
 
   module _ (b j q m w : ℕ) (k : Walked route holds levels cap spent b j q m w) where
-    pub walked_end : cap < b → answer.Absent ≡ from route holds levels cap 3 0 spent
+    pub walked_end : cap < b → Err refusal.Absent ≡ from route holds levels cap 3 0 spent
     walked_end l = sym (k.rest ∙ from_end route holds levels cap b m w l)
 
     pub walked_scanning : Missed route holds 0 0 → b ≤ cap → Scanning route holds cap b j q m w
     walked_scanning miss l = record { node = k.node; miss = miss; near = l; fine = k.fine }
 
     module _ (r : Scan) (z : Scanned (from route holds levels cap b m w) r (λ m w. from route holds levels cap (b + 2 * (q / 4)) m w) (b + 2 * (q / 4))) where
-      pub walked_ends : (a : QueryAnswer) → r ≡ scan.Ends a → a ≡ from route holds levels cap 3 0 spent
+      pub walked_ends : (a : QueryAnswer) → r ≡ Break a → a ≡ from route holds levels cap 3 0 spent
       walked_ends a e = sym (k.rest ∙ z.same ∙ rw e)
 
-      pub walked_on : (x y b' j' q' : ℕ) → Missed route holds 0 0 → r ≡ scan.On x y → Next (b + 2 * (q / 4)) b' j' q' → Walked route holds levels cap spent b' j' q' x y
+      pub walked_on : (x y b' j' q' : ℕ) → Missed route holds 0 0 → r ≡ Continue (cost x y) → Next (b + 2 * (q / 4)) b' j' q' → Walked route holds levels cap spent b' j' q' x y
       walked_on x y b' j' q' miss e n =
           let f : Fine (b + 2 * (q / 4)) x y = rw e at z.fine in
           let d : from route holds levels cap b m w ≡ from route holds levels cap (b + 2 * (q / 4)) x y = z.same ∙ rw e in
@@ -371,11 +366,11 @@ module _ {st : State} {cs : List ℕ} {words flags : ℕ} (v : Valid st cs words
       )
 
 module _ (st : State) (cs ws fs : List ℕ) (id : ℕ) where
-  pub query_gate : (g : Gate) → gate_of st cs (length ws) (length fs) ≡ gated.Refused g → answer.Refused g ≡ query_of st cs ws fs id
+  pub query_gate : (g : Gate) → gate_of st cs (length ws) (length fs) ≡ Err g → Err (refusal.Gate g) ≡ query_of st cs ws fs id
   unfolding query_of
   query_gate g h = sym (rw h)
 
-  pub query_look : (x : QueryAnswer) → gate_of st cs (length ws) (length fs) ≡ gated.Passed → x ≡ look_of st ws fs id → x ≡ query_of st cs ws fs id
+  pub query_look : (x : QueryAnswer) → gate_of st cs (length ws) (length fs) ≡ Ok tt → x ≡ look_of st ws fs id → x ≡ query_of st cs ws fs id
   unfolding query_of
   query_look x h w = w ∙ sym (rw h)
 

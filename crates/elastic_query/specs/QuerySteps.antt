@@ -1,22 +1,20 @@
 -- The query by mapped positions alone: what its steps say. Assumes nothing.
-use Rattle.std.specs.Prelude.{Bool, true, false, ◌≡◌, ℕ, ◌+◌, ◌-◌, ◌*◌, ◌/◌, ◌≤◌, ◌<◌, min, eqb}
+use Rattle.std.specs.Prelude.{Bool, true, false, ◌≡◌, ℕ, ◌+◌, ◌-◌, ◌*◌, ◌/◌, ◌≤◌, ◌<◌, min, eqb, Ok}
 use Rattle.words.specs.Pick.{pick}
 use Rattle.geometry.specs.Elastic.{levels_of}
 use Rattle.elastic_probe.specs.Phi.{at, coords_of}
 use Rattle.elastic_probe.specs.TreeLaws.{Node}
-use Rattle.elastic.specs.declared.route.Reading.{Reading}
-use Rattle.elastic.specs.declared.route.Reading.TheVariants as reading
-use Rattle.elastic_query.specs.declared.query.QueryAnswer.{QueryAnswer}
-use Rattle.elastic_query.specs.declared.query.Scan.{Scan}
-use Rattle.elastic_query.specs.declared.query.Scan.TheVariants as scan
-use Rattle.elastic_query.specs.Query.{Tally, within, walk_of}
+use Rattle.std.proofs.Common.{ControlFlow, Continue, Break}
+use Rattle.elastic.specs.Reading.{read_slot, Routed}
+use Rattle.elastic_query.specs.declared.query.Cost.{Cost}
+use Rattle.elastic_query.specs.Query.{QueryAnswer, Tally, within, walk_of}
 
 -- what was counted when position p is next and level 0 probe 0 was read: each position before is mapped or a gap
 abbrev pub up_to : (p mapped words : ℕ) → Tally
 up_to p m w = record { mapped = m; gaps = p - 1 - m; words = w; seen = true }
 
 -- the walk from position p on
-unfoldable pub from : (route : ℕ → ℕ → Reading) (holds : ℕ → Bool) (levels cap p mapped words : ℕ) → QueryAnswer
+unfoldable pub from : (route : ℕ → ℕ → Routed) (holds : ℕ → Bool) (levels cap p mapped words : ℕ) → QueryAnswer
 from route holds levels cap p m w = walk_of route holds levels (cap + 1 - p) p (up_to p m w)
 
 -- the words of a mapped position; level 0 probe 0 takes no more
@@ -24,10 +22,10 @@ unfoldable pub charged : (i j words : ℕ) → ℕ
 charged i j words = pick (eqb (i - 1 + (j - 1)) 0) 0 words
 
 -- a reading that is no refusal and not the identity
-pub record Missed (route : ℕ → ℕ → Reading) (holds : ℕ → Bool) (level probe : ℕ) : Type 0 where
+pub record Missed (route : ℕ → ℕ → Routed) (holds : ℕ → Bool) (level probe : ℕ) : Type 0 where
   pub slot : ℕ
   pub words : ℕ
-  pub is : route level probe ≡ reading.Slot slot words
+  pub is : route level probe ≡ Ok (read_slot slot words)
   pub other : holds slot ≡ false
 
 -- what holds of the counts where position p is next
@@ -35,14 +33,22 @@ pub record Fine (p mapped words : ℕ) : Type 0 where
   pub few : mapped < p
   pub low : words ≤ 8 * p
 
+-- what was counted
+abbrev pub cost : (mapped words : ℕ) → Cost
+cost m w = record { mapped = m; words = w }
+
+-- what a position or the positions of a node say: the answer of the walk, or on with the counts
+abbrev pub Scan : Type 0
+Scan = ControlFlow QueryAnswer Cost
+
 -- a scan ends the walk with its answer, or the walk goes on with the counts
 abbrev pub scan_told : Scan → (ℕ → ℕ → QueryAnswer) → QueryAnswer
-scan_told (scan.Ends a) rest = a
-scan_told (scan.On m w) rest = rest m w
+scan_told (Break a) rest = a
+scan_told (Continue c) rest = rest c.mapped c.words
 
 abbrev pub IsScanFine : Scan → ℕ → Type 0
-IsScanFine (scan.Ends a) e = Unit {0}
-IsScanFine (scan.On m w) e = Fine e m w
+IsScanFine (Break a) e = Unit {0}
+IsScanFine (Continue c) e = Fine e c.mapped c.words
 
 -- what a scan says of the walk before it, with the walk after it
 pub record Scanned (old : QueryAnswer) (r : Scan) (rest : ℕ → ℕ → QueryAnswer) (e : ℕ) : Type 0 where
@@ -61,7 +67,7 @@ pub record Queried (n last word_cap cap words flags : ℕ) : Type 0 where
   pub flags_size : flags ≡ n
 
 -- what a scan of a node asks
-pub record Scanning (route : ℕ → ℕ → Reading) (holds : ℕ → Bool) (cap b j q mapped words : ℕ) : Type 0 where
+pub record Scanning (route : ℕ → ℕ → Routed) (holds : ℕ → Bool) (cap b j q mapped words : ℕ) : Type 0 where
   pub node : Node b j q
   pub miss : Missed route holds 0 0
   pub near : b ≤ cap

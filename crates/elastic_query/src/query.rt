@@ -3,19 +3,20 @@
 // Position 1 is a gap, so that level 0 probe 0 is read first; from then on every gap reads a slot that is known not to hold
 // the identity. So only mapped positions are visited, in rising order: a node of a tree is the stretch of q positions from b
 // on that start with j's pairs; its second quarter holds i = q/4, .., and its second half the nodes of 2j and 2j + 1.
-ghost use Rattle.std.specs.Prelude.{◌≡◌, Bool, true, false, ℕ, ◌+◌, ◌*◌, ◌-◌, ◌/◌, ◌<◌, ◌≤◌, ◌^◌, min, length};
+ghost use Rattle.std.specs.Prelude.{◌≡◌, Bool, true, false, ℕ, ◌+◌, ◌*◌, ◌-◌, ◌/◌, ◌<◌, ◌≤◌, ◌^◌, length};
 ghost use Rattle.elastic_probe.specs.TreeLaws.{Node, Next, Ends};
 ghost use Rattle.elastic.specs.State.{Valid};
-ghost use Rattle.elastic.specs.Reading.{reading_of, holds_at};
-ghost use Rattle.lent.specs.Lent.{words_in};
+ghost use Rattle.elastic_query.specs.declared.query.QueryRefusal.TheVariants as refusal;
 ghost use Rattle.elastic_query.specs.Query.{positions_of, look_of, query_of};
-ghost use Rattle.elastic_query.specs.QuerySteps.{from, charged, end_of, Missed, Scanned, Queried, Scanning, Visiting};
+ghost use Rattle.elastic_query.specs.QuerySteps.{charged, end_of, Missed, Scanned, Scanning, Visiting};
+ghost use Rattle.elastic_query.specs.Looking.{route_in, holds_in, levels_in, from_in, Looking};
 
-use elastic::route::{Reading, holds, route};
+use elastic::route::{Probing, holds};
 use elastic::state::{State, state_gate};
-use geometry::config::Gated;
+use lent::store::Stored;
 use probe::word::elastic_key;
 use refusal::{Gate, RangeRefusal};
+use std::ops::ControlFlow;
 use words::place::{GlobalSlot, LogicalProbe};
 
 // Where an identity was found, and what the walk to it counted: the Rust's `ScalarElasticQuery`.
@@ -28,22 +29,35 @@ pub struct Finding {
     pub words: u64,
 }
 
+// Why a query finds nothing.
 #[derive(Clone, Copy)]
-pub enum QueryAnswer {
-    Found(Finding),
+pub enum QueryRefusal {
     Range(RangeRefusal),
     Absent,
-    Refused(Gate),
+    Gate(Gate),
 }
 
-// The numbers that every step of a query uses.
+impl From<RangeRefusal> for QueryRefusal {
+    ghost from_gives = { λ range gives. gives ≡ refusal.Range range };
+
+    fn from(refusal: RangeRefusal) -> QueryRefusal {
+        QueryRefusal::Range(refusal)
+    }
+}
+
+impl From<Gate> for QueryRefusal {
+    ghost from_gives = { λ gate gives. gives ≡ refusal.Gate gate };
+
+    fn from(gate: Gate) -> QueryRefusal {
+        QueryRefusal::Gate(gate)
+    }
+}
+
+// The numbers that every step of a query uses: the identity and its probes, and the last position that is tried.
 #[derive(Clone, Copy)]
 pub struct Lookup {
     pub id: u64,
-    pub key: u64,
-    pub n: u64,
-    pub last: u64,
-    pub word_cap: u64,
+    pub probing: Probing,
     pub cap: u64,
 }
 
@@ -55,231 +69,160 @@ pub struct Stretch {
     pub q: u64,
 }
 
-// What a position or the positions of a node say: the answer of the walk, or on with the counts.
+// What the walk has counted: mapped positions, and words.
 #[derive(Clone, Copy)]
-pub enum Scan {
-    Ends(QueryAnswer),
-    On { mapped: u64, words: u64 },
+pub struct Cost {
+    pub mapped: u64,
+    pub words: u64,
 }
 
 // Where an identity is.
-pub fn query(
+pub fn query<E: Stored>(
     st: State,
     counts: &[u64; 32],
-    words: &[u64],
+    words: &[E],
     flags: &[u8],
     identity: u64,
-) -> QueryAnswer
-    ensures { result ≡ query_of st counts.now words.now flags.now identity }
+) -> Result<Finding, QueryRefusal>
+    ensures { result ≡ query_of st counts.now (E.words words.now) flags.now identity }
 {
-    match state_gate(st, counts, words.len(), flags.len()) {
-        Gated::Refused(gate) => {
-            return QueryAnswer::Refused(gate);
-        }
-        Gated::Passed => {
-            let none: [u8; 0] = [];
-            return look(st, counts, words, flags, identity, &none, false);
-        }
-    }
+    state_gate(st, counts, E::count(words) as usize, flags.len())?;
+    look(st, counts, words, flags, identity)
 }
 
 // The query of a table whose tests passed.
-pub fn look(
+pub fn look<E: Stored>(
     st: State,
     counts: &[u64; 32],
-    words: &[u64],
+    words: &[E],
     flags: &[u8],
     identity: u64,
-    lent: &[u8],
-    bytes: bool,
-) -> QueryAnswer
-    requires { Valid st counts.now (length (words_in bytes words.now lent.now)) (length flags.now) }
-    ensures { result ≡ look_of st (words_in bytes words.now lent.now) flags.now identity }
+) -> Result<Finding, QueryRefusal>
+    requires { Valid st counts.now (length (E.words words.now)) (length flags.now) }
+    ensures { result ≡ look_of st (E.words words.now) flags.now identity }
 {
-    let plan = st.plan;
-    let limits = st.limits;
-    let key = elastic_key(st.seed, identity);
+    let probing = Probing {
+        key: elastic_key(st.seed, identity),
+        n: st.n,
+        last: st.plan.levels - 1,
+        cap: st.limits.range_word_cap,
+    };
     let look = Lookup {
         id: identity,
-        key,
-        n: st.n,
-        last: plan.levels - 1,
-        word_cap: limits.range_word_cap,
-        cap: limits.hit_query_position_cap,
+        probing,
+        cap: st.limits.hit_query_position_cap,
     };
-    find(words, flags, look, lent, bytes)
+    find(words, flags, look)
 }
 
 // The walk over positions 1, 2, .. up to the cap.
-fn find(words: &[u64], flags: &[u8], look: Lookup, lent: &[u8], bytes: bool) -> QueryAnswer
-    requires { Queried look.n look.last look.word_cap look.cap (length (words_in bytes words.now lent.now)) (length flags.now) × (0 < look.cap) }
-    ensures { result ≡ positions_of (reading_of look.n look.key look.word_cap) (holds_at (words_in bytes words.now lent.now) flags.now look.id) (look.last + 1) look.cap }
+fn find<E: Stored>(words: &[E], flags: &[u8], look: Lookup) -> Result<Finding, QueryRefusal>
+    requires { Looking look (length (E.words words.now)) (length flags.now) × (0 < look.cap) }
+    ensures { result ≡ positions_of (route_in look) (holds_in look (E.words words.now) flags.now) (levels_in look) look.cap }
 {
-    match route(
-        look.key,
-        look.n,
-        look.last,
-        look.word_cap,
-        0,
-        LogicalProbe(0),
-    ) {
-        Reading::Refused(refusal) => {
-            return QueryAnswer::Range(refusal);
-        }
-        Reading::Slot { slot, words: spent } => {
-            if holds(words, flags, look.id, slot, lent, bytes) {
-                let found = Finding {
-                    position: 1,
-                    global_slot: GlobalSlot(slot),
-                    mapped: 0,
-                    gap: 1,
-                    words: spent,
-                };
-                return QueryAnswer::Found(found);
-            }
-            return descend(words, flags, look, spent, lent, bytes);
-        }
+    let reading = look.probing.route(0, LogicalProbe(0))?;
+    if holds(words, flags, look.id, reading.slot) {
+        return Ok(Finding {
+            position: 1,
+            global_slot: GlobalSlot(reading.slot),
+            mapped: 0,
+            gap: 1,
+            words: reading.words,
+        });
     }
+    descend(words, flags, look, reading.words)
 }
 
 // The walk from position 3 on, node by node.
-fn descend(
-    words: &[u64],
+fn descend<E: Stored>(
+    words: &[E],
     flags: &[u8],
     look: Lookup,
     spent: u64,
-    lent: &[u8],
-    bytes: bool,
-) -> QueryAnswer
-    requires { Queried look.n look.last look.word_cap look.cap (length (words_in bytes words.now lent.now)) (length flags.now)
-        × Missed (reading_of look.n look.key look.word_cap) (holds_at (words_in bytes words.now lent.now) flags.now look.id) 0 0 × (spent ≤ 8) }
-    ensures { result ≡ from (reading_of look.n look.key look.word_cap) (holds_at (words_in bytes words.now lent.now) flags.now look.id) (look.last + 1) look.cap 3 0 spent }
+) -> Result<Finding, QueryRefusal>
+    requires { Looking look (length (E.words words.now)) (length flags.now)
+        × Missed (route_in look) (holds_in look (E.words words.now) flags.now) 0 0 × (spent ≤ 8) }
+    ensures { result ≡ from_in look (E.words words.now) flags.now 3 0 spent }
 {
-    let cap = look.cap;
-    let mut b = 3;
-    let mut j = 1;
-    let mut q = 1;
-    let mut m = 0;
-    let mut w = spent;
-    while b <= cap {
-        match along(words, flags, look, b, j, q, m, w, lent, bytes) {
-            Scan::Ends(answer) => {
-                return answer;
-            }
-            Scan::On {
-                mapped,
-                words: total,
-            } => {
-                m = mapped;
-                w = total;
-            }
+    let mut node = Stretch { b: 3, j: 1, q: 1 };
+    let mut cost = Cost {
+        mapped: 0,
+        words: spent,
+    };
+    while node.b <= look.cap {
+        match along(words, flags, look, node, cost) {
+            ControlFlow::Break(answer) => return answer,
+            ControlFlow::Continue(more) => cost = more,
         }
-        let next = step(b, j, q);
-        b = next.b;
-        j = next.j;
-        q = next.q;
+        node = step(node);
     }
-    QueryAnswer::Absent
+    Err(QueryRefusal::Absent)
 }
 
-// The mapped positions of a node, up to its middle.
-fn along(
-    words: &[u64],
+// The mapped positions of a node, up to its middle: the answer of the walk, or on with what was counted.
+fn along<E: Stored>(
+    words: &[E],
     flags: &[u8],
     look: Lookup,
-    b: u64,
-    j: u64,
-    q: u64,
-    mapped: u64,
-    spent: u64,
-    lent: &[u8],
-    bytes: bool,
-) -> Scan
-    requires { Queried look.n look.last look.word_cap look.cap (length (words_in bytes words.now lent.now)) (length flags.now)
-        × Scanning (reading_of look.n look.key look.word_cap) (holds_at (words_in bytes words.now lent.now) flags.now look.id) look.cap b j q mapped spent }
-    ensures { Scanned (from (reading_of look.n look.key look.word_cap) (holds_at (words_in bytes words.now lent.now) flags.now look.id) (look.last + 1) look.cap b mapped spent) result
-        (λ m w. from (reading_of look.n look.key look.word_cap) (holds_at (words_in bytes words.now lent.now) flags.now look.id) (look.last + 1) look.cap (b + 2 * (q / 4)) m w)
-        (b + 2 * (q / 4)) }
+    node: Stretch,
+    before: Cost,
+) -> ControlFlow<Result<Finding, QueryRefusal>, Cost>
+    requires { Looking look (length (E.words words.now)) (length flags.now)
+        × Scanning (route_in look) (holds_in look (E.words words.now) flags.now) look.cap node.b node.j node.q before.mapped before.words }
+    ensures { Scanned (from_in look (E.words words.now) flags.now node.b before.mapped before.words) result
+        (from_in look (E.words words.now) flags.now (node.b + 2 * (node.q / 4)))
+        (node.b + 2 * (node.q / 4)) }
 {
-    let end = scan_end(look.last, look.cap, b, q);
-    let mut i = q / 4;
-    let mut m = mapped;
-    let mut w = spent;
-    while i < end {
-        match visit(words, flags, look, b + i, i, j, m, w, lent, bytes) {
-            Scan::Ends(answer) => {
-                return Scan::Ends(answer);
-            }
-            Scan::On {
-                mapped: more,
-                words: total,
-            } => {
-                m = more;
-                w = total;
-            }
-        }
-        i += 1;
+    let end = scan_end(look.probing.last, look.cap, node);
+    let mut cost = before;
+    for i in node.q / 4..end {
+        cost = visit(words, flags, look, node.b + i, i, node.j, cost)?;
     }
-    Scan::On {
-        mapped: m,
-        words: w,
-    }
+    ControlFlow::Continue(cost)
 }
 
 // Where the mapped positions of a node end: at its middle, past the last level, or at the cap.
-fn scan_end(last: u64, cap: u64, b: u64, q: u64) -> u64
-    requires { (last < 32) × (b ≤ cap) × (cap ≤ 984263340) }
-    ensures { result ≡ end_of (last + 1) cap b q }
+fn scan_end(last: u64, cap: u64, node: Stretch) -> u64
+    requires { (last < 32) × (node.b ≤ cap) × (cap ≤ 984263340) }
+    ensures { result ≡ end_of (last + 1) cap node.b node.q }
 {
-    least(least(2 * (q / 4), last + 2), cap - b + 1)
-}
-
-fn least(a: u64, b: u64) -> u64
-    ensures { result ≡ min a b }
-{
-    if a < b { a } else { b }
+    (2 * (node.q / 4)).min(last + 2).min(cap - node.b + 1)
 }
 
 // The mapped position of level i and probe j, both from 1.
-fn visit(
-    words: &[u64],
+fn visit<E: Stored>(
+    words: &[E],
     flags: &[u8],
     look: Lookup,
     position: u64,
     i: u64,
     j: u64,
-    mapped: u64,
-    spent: u64,
-    lent: &[u8],
-    bytes: bool,
-) -> Scan
-    requires { Queried look.n look.last look.word_cap look.cap (length (words_in bytes words.now lent.now)) (length flags.now)
-        × Visiting (look.last + 1) look.cap position i j mapped spent }
-    ensures { Scanned (from (reading_of look.n look.key look.word_cap) (holds_at (words_in bytes words.now lent.now) flags.now look.id) (look.last + 1) look.cap position mapped spent) result
-        (λ m w. from (reading_of look.n look.key look.word_cap) (holds_at (words_in bytes words.now lent.now) flags.now look.id) (look.last + 1) look.cap (position + 1) m w)
+    before: Cost,
+) -> ControlFlow<Result<Finding, QueryRefusal>, Cost>
+    requires { Looking look (length (E.words words.now)) (length flags.now)
+        × Visiting (levels_in look) look.cap position i j before.mapped before.words }
+    ensures { Scanned (from_in look (E.words words.now) flags.now position before.mapped before.words) result
+        (from_in look (E.words words.now) flags.now (position + 1))
         (position + 1) }
 {
-    let probe = LogicalProbe(j - 1);
-    match route(look.key, look.n, look.last, look.word_cap, i - 1, probe) {
-        Reading::Refused(refusal) => {
-            return Scan::Ends(QueryAnswer::Range(refusal));
-        }
-        Reading::Slot { slot, words: taken } => {
-            let total = spent + charge(i, j, taken);
-            if holds(words, flags, look.id, slot, lent, bytes) {
-                let found = Finding {
-                    position,
-                    global_slot: GlobalSlot(slot),
-                    mapped: mapped + 1,
-                    gap: position - (mapped + 1),
-                    words: total,
-                };
-                return Scan::Ends(QueryAnswer::Found(found));
-            }
-            return Scan::On {
-                mapped: mapped + 1,
-                words: total,
+    match look.probing.route(i - 1, LogicalProbe(j - 1)) {
+        Err(range) => ControlFlow::Break(Err(QueryRefusal::Range(range))),
+        Ok(reading) => {
+            let cost = Cost {
+                mapped: before.mapped + 1,
+                words: before.words + charge(i, j, reading.words),
             };
+            if holds(words, flags, look.id, reading.slot) {
+                ControlFlow::Break(Ok(Finding {
+                    position,
+                    global_slot: GlobalSlot(reading.slot),
+                    mapped: cost.mapped,
+                    gap: position - cost.mapped,
+                    words: cost.words,
+                }))
+            } else {
+                ControlFlow::Continue(cost)
+            }
         }
     }
 }
@@ -289,25 +232,22 @@ fn charge(i: u64, j: u64, taken: u64) -> u64
     requires { (0 < i) × (0 < j) × (i < 4294967296) × (j < 4294967296) }
     ensures { result ≡ charged i j taken }
 {
-    if i - 1 + (j - 1) == 0 {
-        return 0;
-    }
-    taken
+    if i - 1 + (j - 1) == 0 { 0 } else { taken }
 }
 
 // From the middle of a node to the next node.
-fn step(b: u64, j: u64, q: u64) -> Stretch
-    requires { (Node b j q) × (b < 2 ^ 60) }
-    ensures { (Next (b + 2 * (q / 4)) result.b result.j result.q) × (b < result.b) }
+fn step(node: Stretch) -> Stretch
+    requires { (Node node.b node.j node.q) × (node.b < 2 ^ 60) }
+    ensures { (Next (node.b + 2 * (node.q / 4)) result.b result.j result.q) × (node.b < result.b) }
 {
-    if q >= 16 {
+    if 16 <= node.q {
         return Stretch {
-            b: b + 2 * (q / 4),
-            j: j * 2,
-            q: q / 4,
+            b: node.b + 2 * (node.q / 4),
+            j: node.j * 2,
+            q: node.q / 4,
         };
     }
-    climb(b + q, j, q)
+    climb(node.b + node.q, node.j, node.q)
 }
 
 // From a node's end to the next node.

@@ -1,48 +1,51 @@
 -- The insertion: the choice of a slot, and what is written. Assumes nothing.
-use Rattle.std.specs.Prelude.{Bool, true, false, List, [], ◌∷◌, ◌++◌, ℕ, zero, suc, ◌+◌, ◌-◌, ◌/◌, ◌^◌, ◌≤◌, ◌<◌, ltb, leb, length, get_or, set}
+use Rattle.std.specs.Prelude.{Bool, true, false, List, [], ◌∷◌, ◌++◌, ℕ, zero, suc, ◌+◌, ◌-◌, ◌/◌, ◌^◌, ◌≤◌, ◌<◌, ltb, leb, length, get_or, set, Some, None, Result, Ok, Err}
 use Rattle.refusal.specs.Table.{name_of, Report, answered, refused}
 use Rattle.refusal.specs.declared.Name.TheVariants as name
 use Rattle.words.specs.Pick.{pick}
 use Rattle.words.specs.declared.place.LogicalProbe.{LogicalProbe}
-use Rattle.geometry.specs.declared.config.Gated.{Gated}
-use Rattle.geometry.specs.declared.config.Gated.TheVariants as gated
 use Rattle.geometry.specs.Elastic.{length_at, offset_at, batch_of}
 use Rattle.elastic_probe.specs.Budget.{probes_of}
 use Rattle.elastic_probe.specs.Phi.{phi}
 use Rattle.probe.specs.Word.{elastic_key_of}
 use Rattle.elastic.specs.declared.state.State.{State}
-use Rattle.elastic.specs.declared.route.Sought.{Sought}
-use Rattle.elastic.specs.declared.route.Sought.TheVariants as sought
-use Rattle.elastic.specs.declared.route.Located.{Located}
-use Rattle.elastic.specs.declared.route.Located.TheVariants as located
 use Rattle.elastic_steps.specs.declared.answer.Case.{Case}
 use Rattle.elastic_steps.specs.declared.answer.Case.TheVariants.{Batch0, Case1, Case2, Case3}
 use Rattle.elastic_steps.specs.declared.answer.Insertion.{Insertion}
 use Rattle.elastic_steps.specs.declared.answer.InsertRefusal.{InsertRefusal}
 use Rattle.elastic_steps.specs.declared.answer.InsertRefusal.TheVariants as refusal
-use Rattle.elastic_steps.specs.declared.answer.InsertAnswer.{InsertAnswer}
-use Rattle.elastic_steps.specs.declared.answer.InsertAnswer.TheVariants as answer
-use Rattle.elastic_steps.specs.declared.answer.Chosen.{Chosen}
-use Rattle.elastic_steps.specs.declared.answer.Chosen.TheVariants as chosen
+use Rattle.elastic_steps.specs.declared.answer.Choice.{Choice}
 use Rattle.elastic.specs.State.{gate_of}
-use Rattle.elastic.specs.Reading.{seek_of, first_of}
+use Rattle.elastic.specs.Reading.{Sought, Located, seek_of, first_of}
+use Rattle.geometry.specs.Config.{Gated}
+
+-- what an insertion answers
+abbrev pub InsertAnswer : Type 0
+InsertAnswer = Result Insertion InsertRefusal
 
 -- ---- the choice of a slot
 
+-- the slot that the steps choose, before its position is held against the cap
+abbrev pub choice : Case → (level slot : ℕ) → LogicalProbe → Choice
+choice case level slot probe = record { case = case; level = level; slot = slot; probe = probe }
+
+abbrev pub Chosen : Type 0
+Chosen = Result Choice InsertRefusal
+
 -- a uniform search of a level takes its vacancy; SEARCH: "uniform-search cap used up"
 abbrev pub uniform_by : Case → (level : ℕ) → Sought → Chosen
-uniform_by case level (sought.Vacant slot probe) = chosen.Slot case level slot probe
-uniform_by case level sought.Passed = chosen.Refused refusal.Search
-uniform_by case level (sought.Refused r) = chosen.Refused (refusal.Range r)
+uniform_by case level (Ok (Some vacant)) = Ok (choice case level vacant.slot vacant.probe)
+uniform_by case level (Ok None) = Err refusal.Search
+uniform_by case level (Err r) = Err (refusal.Range r)
 
 unfoldable pub uniform_of : (n key cap : ℕ) → List ℕ → (tries : ℕ) → Case → (level : ℕ) → Chosen
 uniform_of n key cap fs tries case level = uniform_by case level (seek_of n key cap fs level tries)
 
 -- "budget probes in current, then next uniformly"
 abbrev pub budgeted_by : Case → (level : ℕ) → Sought → Chosen → Chosen
-budgeted_by case level (sought.Vacant slot probe) later = chosen.Slot case level slot probe
-budgeted_by case level sought.Passed later = later
-budgeted_by case level (sought.Refused r) later = chosen.Refused (refusal.Range r)
+budgeted_by case level (Ok (Some vacant)) later = Ok (choice case level vacant.slot vacant.probe)
+budgeted_by case level (Ok None) later = later
+budgeted_by case level (Err r) later = Err (refusal.Range r)
 
 unfoldable pub budgeted_of : (n key cap : ℕ) → List ℕ → (tries budget : ℕ) → Case → (current next : ℕ) → Chosen
 budgeted_of n key cap fs tries budget case current next =
@@ -76,7 +79,7 @@ pair_of st key cs fs current =
     let free_next = free_at n cs (current + 1) in
     let budget = probes_of free (length_at n current) st.e st.limits.probe_budget_c in
     pair_by (current_low st.e (length_at n current) free) (next_low (length_at n (current + 1)) free_next)
-    (chosen.Refused refusal.Schedule)
+    (Err refusal.Schedule)
     (uniform_of n key cap fs tries (Case2 (current + 1) current (current + 1) free free_next) (current + 1))
     (uniform_of n key cap fs tries (Case3 (current + 1) current (current + 1) free free_next) current)
     (budgeted_of n key cap fs tries budget (Case1 (current + 1) current (current + 1) free free_next budget) current (current + 1))
@@ -88,9 +91,9 @@ steps_of st key cs fs (suc current) = pair_of st key cs fs current
 
 -- EXHAUSTED: "count at least n minus floor(n/2^e)"; "the batch is the first whose quota prefix exceeds the count"
 abbrev pub choose_by : State → (id : ℕ) → List ℕ → List ℕ → Located → Chosen
-choose_by st id cs fs (located.At slot) = chosen.Refused (refusal.Duplicate (record { 0 = slot }))
-choose_by st id cs fs located.Nowhere =
-    pick (leb st.plan.maximum st.count) (chosen.Refused refusal.Exhausted)
+choose_by st id cs fs (Some slot) = Err (refusal.Duplicate (record { 0 = slot }))
+choose_by st id cs fs None =
+    pick (leb st.plan.maximum st.count) (Err refusal.Exhausted)
     (steps_of st (elastic_key_of st.seed id) cs fs (batch_of st.n st.e st.count))
 
 -- "Elastic insert: 15, 16, 17, then RANGE or SEARCH as the steps meet them"
@@ -139,15 +142,15 @@ insertion_of n case level slot probe = taken_at case level slot (offset_at n lev
 
 -- "then 19", POSITION: "chosen phi above the position cap"; "an insertion writes 1"
 unfoldable pub place_by : State → List ℕ → List ℕ → List ℕ → (id : ℕ) → Chosen → Done
-place_by st cs ws fs id (chosen.Refused r) = done (answer.Refused r) st cs ws fs
-place_by st cs ws fs id (chosen.Slot case level slot probe) =
-    pick (ltb st.limits.hit_query_position_cap (phi (level + 1) (probe.0 + 1)))
-    (done (answer.Refused refusal.Position) st cs ws fs)
-    (done (answer.Inserted (insertion_of st.n case level slot probe)) (counted st) (added_to cs level) (set ws slot id) (set fs slot 1))
+place_by st cs ws fs id (Err r) = done (Err r) st cs ws fs
+place_by st cs ws fs id (Ok chosen) =
+    pick (ltb st.limits.hit_query_position_cap (phi (chosen.level + 1) (chosen.probe.0 + 1)))
+    (done (Err refusal.Position) st cs ws fs)
+    (done (Ok (insertion_of st.n chosen.case chosen.level chosen.slot chosen.probe)) (counted st) (added_to cs chosen.level) (set ws chosen.slot id) (set fs chosen.slot 1))
 
 abbrev pub insert_by : Gated → State → List ℕ → List ℕ → List ℕ → (id : ℕ) → Done
-insert_by (gated.Refused g) st cs ws fs id = done (answer.Refused (refusal.Gate g)) st cs ws fs
-insert_by gated.Passed st cs ws fs id = place_by st cs ws fs id (choose_of st cs ws fs id)
+insert_by (Err g) st cs ws fs id = done (Err (refusal.Gate g)) st cs ws fs
+insert_by (Ok _) st cs ws fs id = place_by st cs ws fs id (choose_of st cs ws fs id)
 
 unfoldable pub insert_of : State → List ℕ → List ℕ → List ℕ → (id : ℕ) → Done
 insert_of st cs ws fs id = insert_by (gate_of st cs (length ws) (length fs)) st cs ws fs id
@@ -171,8 +174,8 @@ refusal_report refusal.Position = refused name.Position []
 
 -- an insertion by its case, level, slot in level, global slot, paper probe and phi
 unfoldable pub insert_report : InsertAnswer → Report
-insert_report (answer.Inserted i) =
+insert_report (Ok i) =
     answered
     (case_values i.case
     ++ (i.location.level ∷ i.location.slot_in_level.0 ∷ i.location.global_slot.0 ∷ i.paper_probe.0 ∷ i.phi ∷ []))
-insert_report (answer.Refused r) = refusal_report r
+insert_report (Err r) = refusal_report r

@@ -1,5 +1,5 @@
 -- Laws of the insertion. Assumes nothing.
-use Rattle.std.specs.Prelude.{Bool, true, false, List, ℕ, zero, suc, ◌+◌, ◌-◌, ◌*◌, ◌/◌, ◌^◌, ◌≤◌, ◌<◌, leb, length, get_or, set}
+use Rattle.std.specs.Prelude.{Bool, true, false, List, ℕ, zero, suc, ◌+◌, ◌-◌, ◌*◌, ◌/◌, ◌^◌, ◌≤◌, ◌<◌, leb, length, get_or, set, Some, None, Result, Ok, Err}
 use Rattle.std.proofs.Math.Path.{◌≡◌, refl, sym}
 use Rattle.std.proofs.Common.{ap, ◌∙◌, mul-le-mul, arith}
 use borrow.Author.Tests.{ne_eqb, lt-ltb, le-ltb, le-leb, lt-leb, leb-false}
@@ -7,38 +7,27 @@ use Rattle.refusal.specs.declared.RangeRefusal.{RangeRefusal}
 use Rattle.refusal.specs.declared.Gate.{Gate}
 use Rattle.words.specs.declared.place.LogicalProbe.{LogicalProbe}
 use Rattle.words.specs.Pick.{pick}
-use Rattle.geometry.specs.declared.config.Gated.TheVariants as gated
 use Rattle.geometry.specs.Config.{maximum}
 use Rattle.geometry.specs.Elastic.{levels_of, level_length, lengths_of, length_at, offset_at, batch_from, batch_of, quotas_of, cut, later_quotas, split}
 use Rattle.geometry.specs.ElasticLaws.{levels_facts, uncut_later, batch_is}
 use Rattle.elastic_probe.specs.Budget.{probes_of, budget_of}
 use Rattle.elastic_probe.specs.BudgetLaws.{probes_most, budget_in_table}
-use Rattle.elastic_probe.specs.declared.budget.Budgeted.{Budgeted}
-use Rattle.elastic_probe.specs.declared.budget.Budgeted.TheVariants as budgeted
-use Rattle.elastic_probe.specs.declared.phi.Bounded.{Bounded}
-use Rattle.elastic_probe.specs.declared.phi.Coordinate.{Coordinate}
+use Rattle.elastic_probe.specs.declared.budget.BudgetRefusal.{BudgetRefusal}
+use Rattle.elastic_probe.specs.declared.phi.PhiRefusal.{PhiRefusal}
 use Rattle.elastic_probe.specs.Phi.{phi}
 use Rattle.elastic_probe.specs.PhiLaws.{phi_bound}
 use Rattle.elastic_probe.specs.Position.{bounded_of}
 use Rattle.probe.specs.Word.{elastic_key_of}
-use Rattle.elastic_probe.specs.declared.phi.Bounded.TheVariants as bounded
 use Rattle.elastic.specs.declared.state.State.{State}
-use Rattle.elastic.specs.declared.route.Sought.{Sought}
-use Rattle.elastic.specs.declared.route.Sought.TheVariants as sought
-use Rattle.elastic.specs.declared.route.Located.{Located}
-use Rattle.elastic.specs.declared.route.Located.TheVariants as located
 use Rattle.elastic_steps.specs.declared.answer.Case.{Case}
 use Rattle.elastic_steps.specs.declared.answer.Case.TheVariants.{Batch0, Case1, Case2, Case3}
 use Rattle.elastic_steps.specs.declared.answer.InsertRefusal.{InsertRefusal}
 use Rattle.elastic_steps.specs.declared.answer.InsertRefusal.TheVariants as refusal
-use Rattle.elastic_steps.specs.declared.answer.InsertAnswer.{InsertAnswer}
-use Rattle.elastic_steps.specs.declared.answer.InsertAnswer.TheVariants as answer
-use Rattle.elastic_steps.specs.declared.answer.Chosen.{Chosen}
-use Rattle.elastic_steps.specs.declared.answer.Chosen.TheVariants as chosen
+use Rattle.elastic_steps.specs.declared.answer.Choice.{Choice}
 use Rattle.elastic.specs.State.{gate_of, Valid, Searching, Pairing, Affordable}
-use Rattle.elastic.specs.Reading.{seek_of, first_of, Probed, Seekable}
+use Rattle.elastic.specs.Reading.{vacant, Sought, Located, seek_of, first_of, Probed, Seekable}
 use Rattle.elastic.specs.ReadingLaws.{probed_offset, probed_few, probed_length, probed_within, seek_vacant}
-use Rattle.elastic_steps.specs.Insert.{uniform_by, uniform_of, budgeted_by, budgeted_of, free_at, pair_by, pair_of, steps_of, choose_by, choose_of, Done, done, counted, added_to, Storable, taken_at, place_by, insert_of}
+use Rattle.elastic_steps.specs.Insert.{InsertAnswer, Chosen, choice, uniform_by, uniform_of, budgeted_by, budgeted_of, free_at, pair_by, pair_of, steps_of, choose_by, choose_of, Done, done, counted, added_to, Storable, taken_at, place_by, insert_of}
 
 -- ---- what is asked of the searches
 
@@ -85,18 +74,18 @@ module _ {st : State} {cs : List ℕ} {current flags : ℕ} (p : Pairing st cs c
 
 -- ---- numbers that no table refuses
 
-module _ (free size e c : ℕ) (a : Affordable free size e c) (b : Budgeted) (is : b ≡ budget_of free size e c) where
-  budget_given : b ≡ budgeted.Probes (probes_of free size e c)
+module _ (free size e c : ℕ) (a : Affordable free size e c) (b : Result ℕ BudgetRefusal) (is : b ≡ budget_of free size e c) where
+  pub budget_given : b ≡ Ok (probes_of free size e c)
   budget_given = is ∙ sym (budget_in_table free size e c a.some a.most a.small a.factor_some a.factor_most)
 
-  pub budget_probes : (p : ℕ) → b ≡ budgeted.Probes p → (p ≡ probes_of free size e c) × (p ≤ 8192)
+  pub budget_probes : (p : ℕ) → b ≡ Ok p → (p ≡ probes_of free size e c) × (p ≤ 8192)
   budget_probes p h =
       let g = budget_given in
       let same : p ≡ probes_of free size e c = cc in
       (same, rw same (probes_most free size e c a.some a.most a.small a.factor_some a.factor_most))
 
-  pub budget_never : {A : Type 0} → (reason : ℕ) → b ≡ budgeted.Budget reason → A
-  budget_never reason h = let g = budget_given in let z : ◌≡◌ {A = ℕ} 0 1 = cc in absurd (omega arith)
+  pub budget_never : {A : Type 0} → (r : BudgetRefusal) → b ≡ Err r → A
+  budget_never r h = let g = budget_given in let z : ◌≡◌ {A = ℕ} 0 1 = cc in absurd (omega arith)
 
 phi_word : (level probe : ℕ) → level < 32 → probe < 8192 → phi (level + 1) (probe + 1) < 2 ^ 64
 phi_word level probe h k =
@@ -108,48 +97,45 @@ phi_word level probe h k =
     below : (x y : ℕ) → x < y → y ≤ 512 * (8192 * 8192) → x < 2 ^ 64
     below x y u v = omega arith
 
-module _ (level probe : ℕ) (h : level < 32) (k : probe < 8192) (b : Bounded) (is : b ≡ bounded_of (level + 1) (probe + 1)) where
-  position_given : b ≡ bounded.At (phi (level + 1) (probe + 1))
+module _ (level probe : ℕ) (h : level < 32) (k : probe < 8192) (b : Result ℕ PhiRefusal) (is : b ≡ bounded_of (level + 1) (probe + 1)) where
+  pub position_given : b ≡ Ok (phi (level + 1) (probe + 1))
   unfolding bounded_of
   position_given =
       is ∙ rw (ne_eqb (level + 1) 0 (λ z. omega arith), ne_eqb (probe + 1) 0 (λ z. omega arith), le-ltb 65535 (probe + 1) (omega arith), lt-ltb (phi (level + 1) (probe + 1)) (2 ^ 64) (phi_word level probe h k))
 
-  pub position_is : (p : ℕ) → b ≡ bounded.At p → p ≡ phi (level + 1) (probe + 1)
+  pub position_is : (p : ℕ) → b ≡ Ok p → p ≡ phi (level + 1) (probe + 1)
   position_is p e = let g = position_given in cc
 
-  pub position_coord : {A : Type 0} → (x : Coordinate) → b ≡ bounded.Coord x → A
-  position_coord x e = let g = position_given in let z : ◌≡◌ {A = ℕ} 0 1 = cc in absurd (omega arith)
-
-  pub position_over : {A : Type 0} → b ≡ bounded.Overflow → A
-  position_over e = let g = position_given in let z : ◌≡◌ {A = ℕ} 0 1 = cc in absurd (omega arith)
+  pub position_never : {A : Type 0} → (r : PhiRefusal) → b ≡ Err r → A
+  position_never r e = let g = position_given in let z : ◌≡◌ {A = ℕ} 0 1 = cc in absurd (omega arith)
 
 -- ---- the uniform search
 
 module _ (n key cap : ℕ) (fs : List ℕ) (tries : ℕ) (case : Case) (level : ℕ) (r : Sought) (e : r ≡ seek_of n key cap fs level tries) where
-  pub uniform_vacant : (slot : ℕ) (probe : LogicalProbe) → r ≡ sought.Vacant slot probe → chosen.Slot case level slot probe ≡ uniform_of n key cap fs tries case level
+  pub uniform_vacant : (slot : ℕ) (probe : LogicalProbe) → r ≡ Ok (Some (vacant slot probe)) → Ok (choice case level slot probe) ≡ uniform_of n key cap fs tries case level
   unfolding uniform_of
   uniform_vacant slot probe h = sym (rw (← e, h))
 
-  pub uniform_passed : r ≡ sought.Passed → chosen.Refused refusal.Search ≡ uniform_of n key cap fs tries case level
+  pub uniform_passed : r ≡ Ok None → Err refusal.Search ≡ uniform_of n key cap fs tries case level
   unfolding uniform_of
   uniform_passed h = sym (rw (← e, h))
 
-  pub uniform_refused : (x : RangeRefusal) → r ≡ sought.Refused x → chosen.Refused (refusal.Range x) ≡ uniform_of n key cap fs tries case level
+  pub uniform_refused : (x : RangeRefusal) → r ≡ Err x → Err (refusal.Range x) ≡ uniform_of n key cap fs tries case level
   unfolding uniform_of
   uniform_refused x h = sym (rw (← e, h))
 
 -- ---- the budgeted search
 
 module _ (n key cap : ℕ) (fs : List ℕ) (tries budget : ℕ) (case : Case) (current next : ℕ) (r : Sought) (e : r ≡ seek_of n key cap fs current budget) where
-  pub budgeted_vacant : (slot : ℕ) (probe : LogicalProbe) → r ≡ sought.Vacant slot probe → chosen.Slot case current slot probe ≡ budgeted_of n key cap fs tries budget case current next
+  pub budgeted_vacant : (slot : ℕ) (probe : LogicalProbe) → r ≡ Ok (Some (vacant slot probe)) → Ok (choice case current slot probe) ≡ budgeted_of n key cap fs tries budget case current next
   unfolding budgeted_of
   budgeted_vacant slot probe h = sym (rw (← e, h))
 
-  pub budgeted_passed : (x : Chosen) → r ≡ sought.Passed → x ≡ uniform_of n key cap fs tries case next → x ≡ budgeted_of n key cap fs tries budget case current next
+  pub budgeted_passed : (x : Chosen) → r ≡ Ok None → x ≡ uniform_of n key cap fs tries case next → x ≡ budgeted_of n key cap fs tries budget case current next
   unfolding budgeted_of
   budgeted_passed x h q = q ∙ sym (rw (← e, h))
 
-  pub budgeted_refused : (x : RangeRefusal) → r ≡ sought.Refused x → chosen.Refused (refusal.Range x) ≡ budgeted_of n key cap fs tries budget case current next
+  pub budgeted_refused : (x : RangeRefusal) → r ≡ Err x → Err (refusal.Range x) ≡ budgeted_of n key cap fs tries budget case current next
   unfolding budgeted_of
   budgeted_refused x h = sym (rw (← e, h))
 
@@ -157,7 +143,7 @@ module _ (n key cap : ℕ) (fs : List ℕ) (tries budget : ℕ) (case : Case) (c
 
 module _ (st : State) (key : ℕ) (cs fs : List ℕ) (current l m f g q : ℕ) (a : l ≡ length_at st.n current) (b : m ≡ length_at st.n (current + 1))
     (x : f ≡ free_at st.n cs current) (y : g ≡ free_at st.n cs (current + 1)) (d : q ≡ l / 2 ^ (st.e + 1)) where
-  pub pair_schedule : f ≤ q → g ≤ m / 4 → chosen.Refused refusal.Schedule ≡ pair_of st key cs fs current
+  pub pair_schedule : f ≤ q → g ≤ m / 4 → Err refusal.Schedule ≡ pair_of st key cs fs current
   unfolding pair_of pair_by
   pair_schedule h k = sym (rw (← x, ← y, ← a, ← b, ← d, le-leb f q h, le-leb g (m / 4) k))
 
@@ -198,15 +184,15 @@ unfolding batch_of quotas_of lengths_of
 batch_code n e levels most count b a d h = h ∙ rw (a, d, ← uncut_later e (split (levels_of n) n))
 
 module _ (st : State) (cs ws fs : List ℕ) (id : ℕ) (r : Located) (e : r ≡ first_of ws fs id) where
-  pub choose_duplicate : (slot : ℕ) → r ≡ located.At slot → chosen.Refused (refusal.Duplicate (record { 0 = slot })) ≡ choose_of st cs ws fs id
+  pub choose_duplicate : (slot : ℕ) → r ≡ Some slot → Err (refusal.Duplicate (record { 0 = slot })) ≡ choose_of st cs ws fs id
   unfolding choose_of
   choose_duplicate slot h = sym (rw (← e, h))
 
-  pub choose_exhausted : r ≡ located.Nowhere → st.plan.maximum ≤ st.count → chosen.Refused refusal.Exhausted ≡ choose_of st cs ws fs id
+  pub choose_exhausted : r ≡ None → st.plan.maximum ≤ st.count → Err refusal.Exhausted ≡ choose_of st cs ws fs id
   unfolding choose_of
   choose_exhausted h l = sym (rw (← e, h, le-leb st.plan.maximum st.count l))
 
-  pub choose_steps : (x : Chosen) (key batch : ℕ) → r ≡ located.Nowhere → st.count < st.plan.maximum → key ≡ elastic_key_of st.seed id → batch ≡ batch_of st.n st.e st.count
+  pub choose_steps : (x : Chosen) (key batch : ℕ) → r ≡ None → st.count < st.plan.maximum → key ≡ elastic_key_of st.seed id → batch ≡ batch_of st.n st.e st.count
       → x ≡ steps_of st key cs fs batch → x ≡ choose_of st cs ws fs id
   unfolding choose_of
   choose_steps x key batch h l a b w = w ∙ sym (rw (← e, h, lt-leb st.plan.maximum st.count l, ← a, ← b))
@@ -247,7 +233,7 @@ pair_cases false true both here there neither r h a b c d = c h
 pair_cases false false both here there neither r h a b c d = d refl h
 
 module _ {st : State} {fs : List ℕ} (key : ℕ) where
-  taken_seek : {level : ℕ} → Searching st level (length fs) → (tries slot : ℕ) (probe : LogicalProbe) → tries ≤ 8192 → seek_of st.n key st.limits.range_word_cap fs level tries ≡ sought.Vacant slot probe
+  taken_seek : {level : ℕ} → Searching st level (length fs) → (tries slot : ℕ) (probe : LogicalProbe) → tries ≤ 8192 → seek_of st.n key st.limits.range_word_cap fs level tries ≡ Ok (Some (vacant slot probe))
       → Taken st fs level slot probe
   taken_seek s tries slot probe h e =
       let q = searching_probed s (st.plan.levels - 1) refl in
@@ -256,38 +242,40 @@ module _ {st : State} {fs : List ℕ} (key : ℕ) where
 
   -- by what a search answers
   pub uniform_taken : {level : ℕ} → Searching st level (length fs) → (case case' : Case) (level' slot : ℕ) (probe : LogicalProbe)
-      → uniform_of st.n key st.limits.range_word_cap fs st.limits.uniform_search_probe_cap case level ≡ chosen.Slot case' level' slot probe → Taken st fs level' slot probe
+      → uniform_of st.n key st.limits.range_word_cap fs st.limits.uniform_search_probe_cap case level ≡ Ok (choice case' level' slot probe) → Taken st fs level' slot probe
   unfolding uniform_of
   uniform_taken {level} s case case' level' slot probe h =
       go (seek_of st.n key st.limits.range_word_cap fs level st.limits.uniform_search_probe_cap) refl h
     where
-      go : (r : Sought) → seek_of st.n key st.limits.range_word_cap fs level st.limits.uniform_search_probe_cap ≡ r → uniform_by case level r ≡ chosen.Slot case' level' slot probe → Taken st fs level' slot probe
-      go (sought.Vacant u q) e g =
-          let a : level ≡ level' = cc in
-          let b : u ≡ slot = cc in
-          let d : ◌≡◌ {A = LogicalProbe} q probe = cc in
-          rw (← a, ← b, ← d) (taken_seek s _ u q s.limits.search_most e)
-      go sought.Passed e g = let z : ◌≡◌ {A = ℕ} 0 1 = cc in absurd (omega arith)
-      go (sought.Refused r) e g = let z : ◌≡◌ {A = ℕ} 0 1 = cc in absurd (omega arith)
+      go : (r : Sought) → seek_of st.n key st.limits.range_word_cap fs level st.limits.uniform_search_probe_cap ≡ r → uniform_by case level r ≡ Ok (choice case' level' slot probe) → Taken st fs level' slot probe
+      go (Ok (Some v)) e g =
+          let same : choice case level v.slot v.probe ≡ choice case' level' slot probe = cc in
+          let a : level ≡ level' = ap (λ (x : Choice). x.level) same in
+          let b : v.slot ≡ slot = ap (λ (x : Choice). x.slot) same in
+          let d : ◌≡◌ {A = LogicalProbe} v.probe probe = ap (λ (x : Choice). x.probe) same in
+          rw (← a, ← b, ← d) (taken_seek s _ v.slot v.probe s.limits.search_most e)
+      go (Ok None) e g = let z : ◌≡◌ {A = ℕ} 0 1 = cc in absurd (omega arith)
+      go (Err r) e g = let z : ◌≡◌ {A = ℕ} 0 1 = cc in absurd (omega arith)
 
   budgeted_taken : {current next : ℕ} → Searching st current (length fs) → Searching st next (length fs) → (budget : ℕ) → budget ≤ 8192 → (case case' : Case) (level' slot : ℕ) (probe : LogicalProbe)
-      → budgeted_of st.n key st.limits.range_word_cap fs st.limits.uniform_search_probe_cap budget case current next ≡ chosen.Slot case' level' slot probe → Taken st fs level' slot probe
+      → budgeted_of st.n key st.limits.range_word_cap fs st.limits.uniform_search_probe_cap budget case current next ≡ Ok (choice case' level' slot probe) → Taken st fs level' slot probe
   unfolding budgeted_of
   budgeted_taken {current} {next} s t budget few case case' level' slot probe h =
       go (seek_of st.n key st.limits.range_word_cap fs current budget) refl h
     where
       go : (r : Sought) → seek_of st.n key st.limits.range_word_cap fs current budget ≡ r
-          → budgeted_by case current r (uniform_of st.n key st.limits.range_word_cap fs st.limits.uniform_search_probe_cap case next) ≡ chosen.Slot case' level' slot probe → Taken st fs level' slot probe
-      go (sought.Vacant u q) e g =
-          let a : current ≡ level' = cc in
-          let b : u ≡ slot = cc in
-          let d : ◌≡◌ {A = LogicalProbe} q probe = cc in
-          rw (← a, ← b, ← d) (taken_seek s budget u q few e)
-      go sought.Passed e g = uniform_taken t case case' level' slot probe g
-      go (sought.Refused r) e g = let z : ◌≡◌ {A = ℕ} 0 1 = cc in absurd (omega arith)
+          → budgeted_by case current r (uniform_of st.n key st.limits.range_word_cap fs st.limits.uniform_search_probe_cap case next) ≡ Ok (choice case' level' slot probe) → Taken st fs level' slot probe
+      go (Ok (Some v)) e g =
+          let same : choice case current v.slot v.probe ≡ choice case' level' slot probe = cc in
+          let a : current ≡ level' = ap (λ (x : Choice). x.level) same in
+          let b : v.slot ≡ slot = ap (λ (x : Choice). x.slot) same in
+          let d : ◌≡◌ {A = LogicalProbe} v.probe probe = ap (λ (x : Choice). x.probe) same in
+          rw (← a, ← b, ← d) (taken_seek s budget v.slot v.probe few e)
+      go (Ok None) e g = uniform_taken t case case' level' slot probe g
+      go (Err r) e g = let z : ◌≡◌ {A = ℕ} 0 1 = cc in absurd (omega arith)
 
   pair_taken : {cs : List ℕ} {current : ℕ} → Pairing st cs current (length fs) → (case' : Case) (level' slot : ℕ) (probe : LogicalProbe)
-      → pair_of st key cs fs current ≡ chosen.Slot case' level' slot probe → Taken st fs level' slot probe
+      → pair_of st key cs fs current ≡ Ok (choice case' level' slot probe) → Taken st fs level' slot probe
   unfolding pair_of
   pair_taken {cs} {current} p case' level' slot probe h =
       pair_cases _ _ _ _ _ _ _ h
@@ -312,7 +300,7 @@ pub valid_pairing : {st : State} {cs : List ℕ} {words flags : ℕ} → Valid s
 valid_pairing v current h = record { search = valid_searching v (current + 1) h; within = v.within }
 
 steps_taken : {st : State} {cs fs : List ℕ} {words : ℕ} → Valid st cs words (length fs) → (key batch : ℕ) → batch < levels_of st.n → (case' : Case) (level' slot : ℕ) (probe : LogicalProbe)
-    → steps_of st key cs fs batch ≡ chosen.Slot case' level' slot probe → Taken st fs level' slot probe
+    → steps_of st key cs fs batch ≡ Ok (choice case' level' slot probe) → Taken st fs level' slot probe
 unfolding steps_of
 steps_taken v key zero l case' level' slot probe h = uniform_taken key (valid_searching v 0 l) _ case' level' slot probe h
 steps_taken v key (suc b) l case' level' slot probe h = pair_taken key (valid_pairing v b (omega arith)) case' level' slot probe h
@@ -322,42 +310,42 @@ pub valid_batch : {st : State} {cs : List ℕ} {words flags : ℕ} → Valid st 
 valid_batch {st} v h = (batch_is st.n st.e v.config st.count (omega (arith, v.maximum_is))).1
 
 pub choose_taken : (st : State) (cs ws fs : List ℕ) → Valid st cs (length ws) (length fs) → (id : ℕ) (case' : Case) (level' slot : ℕ) (probe : LogicalProbe)
-    → choose_of st cs ws fs id ≡ chosen.Slot case' level' slot probe → Taken st fs level' slot probe
+    → choose_of st cs ws fs id ≡ Ok (choice case' level' slot probe) → Taken st fs level' slot probe
 unfolding choose_of
 choose_taken st cs ws fs v id case' level' slot probe h = go (first_of ws fs id) h
   where
-    by : (x : Bool) → leb st.plan.maximum st.count ≡ x → pick x (chosen.Refused refusal.Exhausted) (steps_of st (elastic_key_of st.seed id) cs fs (batch_of st.n st.e st.count)) ≡ chosen.Slot case' level' slot probe
+    by : (x : Bool) → leb st.plan.maximum st.count ≡ x → pick x (Err refusal.Exhausted) (steps_of st (elastic_key_of st.seed id) cs fs (batch_of st.n st.e st.count)) ≡ Ok (choice case' level' slot probe)
         → Taken st fs level' slot probe
     by true e g = let z : ◌≡◌ {A = ℕ} 0 1 = cc in absurd (omega arith)
     by false e g = steps_taken v (elastic_key_of st.seed id) (batch_of st.n st.e st.count) (valid_batch v (leb-false _ _ e)) case' level' slot probe g
 
-    go : (r : Located) → choose_by st id cs fs r ≡ chosen.Slot case' level' slot probe → Taken st fs level' slot probe
-    go (located.At u) g = let z : ◌≡◌ {A = ℕ} 0 1 = cc in absurd (omega arith)
-    go located.Nowhere g = by (leb st.plan.maximum st.count) refl g
+    go : (r : Located) → choose_by st id cs fs r ≡ Ok (choice case' level' slot probe) → Taken st fs level' slot probe
+    go (Some u) g = let z : ◌≡◌ {A = ℕ} 0 1 = cc in absurd (omega arith)
+    go None g = by (leb st.plan.maximum st.count) refl g
 
 -- ---- what is written
 
 module _ (st : State) (cs ws fs : List ℕ) (id : ℕ) (x : Chosen) (e : x ≡ choose_of st cs ws fs id) where
-  pub place_refused : (r : InsertRefusal) → x ≡ chosen.Refused r → done (answer.Refused r) st cs ws fs ≡ place_by st cs ws fs id (choose_of st cs ws fs id)
+  pub place_refused : (r : InsertRefusal) → x ≡ Err r → done (Err r) st cs ws fs ≡ place_by st cs ws fs id (choose_of st cs ws fs id)
   unfolding place_by
   place_refused r h = sym (rw (← e, h))
 
-  module _ (case : Case) (level slot : ℕ) (probe : LogicalProbe) (p : ℕ) (h : x ≡ chosen.Slot case level slot probe) (is : p ≡ phi (level + 1) (probe.0 + 1)) where
-    pub place_position : st.limits.hit_query_position_cap < p → done (answer.Refused refusal.Position) st cs ws fs ≡ place_by st cs ws fs id (choose_of st cs ws fs id)
+  module _ (case : Case) (level slot : ℕ) (probe : LogicalProbe) (p : ℕ) (h : x ≡ Ok (choice case level slot probe)) (is : p ≡ phi (level + 1) (probe.0 + 1)) where
+    pub place_position : st.limits.hit_query_position_cap < p → done (Err refusal.Position) st cs ws fs ≡ place_by st cs ws fs id (choose_of st cs ws fs id)
     unfolding place_by
     place_position l = sym (rw (← e, h, ← is, lt-ltb st.limits.hit_query_position_cap p l))
 
     pub place_inserted : (o : ℕ) → p ≤ st.limits.hit_query_position_cap → o ≡ offset_at st.n level
-        → {a : InsertAnswer} {st' : State} {cs' ws' fs' : List ℕ} → a ≡ answer.Inserted (taken_at case level slot o probe p) → st' ≡ counted st
+        → {a : InsertAnswer} {st' : State} {cs' ws' fs' : List ℕ} → a ≡ Ok (taken_at case level slot o probe p) → st' ≡ counted st
         → cs' ≡ added_to cs level → ws' ≡ set ws slot id → fs' ≡ set fs slot 1 → done a st' cs' ws' fs' ≡ place_by st cs ws fs id (choose_of st cs ws fs id)
     unfolding place_by
     place_inserted o l d ea es ec ew ef = rw (ea, es, ec, ew, ef) (sym (rw (← e, h, ← is, le-ltb st.limits.hit_query_position_cap p l, ← d)))
 
 module _ (st : State) (cs ws fs : List ℕ) (id : ℕ) where
-  pub insert_gate : (g : Gate) → gate_of st cs (length ws) (length fs) ≡ gated.Refused g → done (answer.Refused (refusal.Gate g)) st cs ws fs ≡ insert_of st cs ws fs id
+  pub insert_gate : (g : Gate) → gate_of st cs (length ws) (length fs) ≡ Err g → done (Err (refusal.Gate g)) st cs ws fs ≡ insert_of st cs ws fs id
   unfolding insert_of
   insert_gate g h = sym (rw h)
 
-  pub insert_place : (d : Done) → gate_of st cs (length ws) (length fs) ≡ gated.Passed → d ≡ place_by st cs ws fs id (choose_of st cs ws fs id) → d ≡ insert_of st cs ws fs id
+  pub insert_place : (d : Done) → gate_of st cs (length ws) (length fs) ≡ Ok tt → d ≡ place_by st cs ws fs id (choose_of st cs ws fs id) → d ≡ insert_of st cs ws fs id
   unfolding insert_of
   insert_place d h w = w ∙ sym (rw h)

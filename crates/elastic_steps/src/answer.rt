@@ -1,4 +1,7 @@
 // What an insertion answers, as the Rust tells it, and what its steps choose.
+ghost use Rattle.std.specs.Prelude.{◌≡◌};
+ghost use Rattle.elastic_steps.specs.declared.answer.InsertRefusal.TheVariants as refusal;
+
 use elastic::state::State;
 use refusal::{Gate, RangeRefusal};
 use words::place::{GlobalSlot, LevelSlot, LogicalProbe, PaperProbe};
@@ -62,27 +65,34 @@ pub enum InsertRefusal {
     Position,
 }
 
-#[derive(Clone, Copy)]
-pub enum InsertAnswer {
-    Inserted(Insertion),
-    Refused(InsertRefusal),
+impl From<Gate> for InsertRefusal {
+    ghost from_gives = { λ gate gives. gives ≡ refusal.Gate gate };
+
+    fn from(gate: Gate) -> InsertRefusal {
+        InsertRefusal::Gate(gate)
+    }
+}
+
+impl From<RangeRefusal> for InsertRefusal {
+    ghost from_gives = { λ range gives. gives ≡ refusal.Range range };
+
+    fn from(refusal: RangeRefusal) -> InsertRefusal {
+        InsertRefusal::Range(refusal)
+    }
 }
 
 // The answer, and the state after it.
 #[derive(Clone, Copy)]
 pub struct Inserted {
-    pub answer: InsertAnswer,
+    pub answer: Result<Insertion, InsertRefusal>,
     pub st: State,
 }
 
 // The slot that the steps choose, before its position is held against the cap.
 #[derive(Clone, Copy)]
-pub enum Chosen {
-    Slot {
-        case: Case,
-        level: u64,
-        slot: u64,
-        probe: LogicalProbe,
-    },
-    Refused(InsertRefusal),
+pub struct Choice {
+    pub case: Case,
+    pub level: u64,
+    pub slot: u64,
+    pub probe: LogicalProbe,
 }

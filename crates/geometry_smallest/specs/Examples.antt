@@ -1,5 +1,5 @@
 -- The definitions at a few numbers: the examples of the request, and a lower bound that is no layout. Assumes nothing.
-use Rattle.std.specs.Prelude.{ℕ, ◌-◌, ◌/◌, ◌≤◌}
+use Rattle.std.specs.Prelude.{Some, ℕ, ◌-◌, ◌/◌, ◌≤◌}
 use Rattle.std.proofs.Math.Nat.{dvd-mul_right}
 use Rattle.std.proofs.Common.{arith}
 use Rattle.words.specs.Log.{ceil_log2, first_from}
@@ -8,7 +8,6 @@ use Rattle.geometry.specs.Special.{loglog, special_least, special_most, SpecialL
 use Rattle.geometry.specs.Funnel.{Layout}
 use Rattle.geometry.specs.FunnelExist.{special_layout}
 use Rattle.geometry.specs.LengthLaws.{length_facts}
-use Rattle.geometry_smallest.specs.declared.minimum.MinimumSlots.TheVariants.{Slots}
 use Rattle.geometry_smallest.specs.LayoutsLaws.{loglog_mono, loglog_17}
 use Rattle.geometry_smallest.specs.Minimum.{Roomy, Minimum}
 use Rattle.geometry_smallest.specs.MinimumLaws.{loglog_least}
@@ -67,7 +66,7 @@ cells_127 =
 
 -- ---- "its answer is only a lower bound on layouts": from 2 on it is 128, which has no layout; the smallest that has one is 144
 
-pub bound_128 : Minimum 3 2 (Slots 128)
+pub bound_128 : Minimum 3 2 (Some 128)
 unfolding Minimum loglog ceil_log2 first_from
 bound_128 = record { holds = record { above = omega arith; fits = omega arith; room = omega arith }; below = at_least }
   where

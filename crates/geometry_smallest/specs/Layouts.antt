@@ -1,5 +1,5 @@
 -- Stretches of n without a layout, and the first n that has one. Assumes nothing.
-use Rattle.std.specs.Prelude.{◌≡◌, ℕ, zero, suc, ◌+◌, ◌*◌, ◌/◌, ◌^◌, ◌-◌, ◌≤◌, ◌<◌, min, max}
+use Rattle.std.specs.Prelude.{◌≡◌, Option, Some, None, ℕ, ◌+◌, ◌*◌, ◌/◌, ◌^◌, ◌-◌, ◌≤◌, ◌<◌, min, max}
 use Rattle.std.specs.Int.{◌∣◌}
 use Rattle.geometry.specs.Extreme.{IsLargest}
 use Rattle.geometry.specs.Special.{loglog, special_least, SpecialLength}
@@ -46,7 +46,7 @@ pub record First (e start last n : ℕ) : Type 0 where
   pub special : (s : ℕ) × IsLargest (SpecialLength n e) s
   pub bare : Bare e start n
 
--- what the search answers: the first from `start` to `last`, or 0 where there is none
-unfoldable pub FirstLayout : (e start last r : ℕ) → Type 0
-FirstLayout e start last zero = Bare e start (last + 1)
-FirstLayout e start last (suc r) = First e start last (suc r)
+-- what the search answers: the first from `start` to `last`, or None where there is none
+unfoldable pub FirstLayout : (e start last : ℕ) → Option ℕ → Type 0
+FirstLayout e start last None = Bare e start (last + 1)
+FirstLayout e start last (Some n) = First e start last n

@@ -1,7 +1,9 @@
 -- Laws of stretches without a layout: the jump, and the search that jumps. Assumes nothing.
 use Rattle.std.specs.Prelude.{◌≡◌, refl}
+use Rattle.std.specs.Prelude.{Option, Some, None, true, false}
+use Rattle.std.specs.Option.{is_some}
 use Rattle.std.proofs.Common.{subst, le_antisymm, div-le_self, mod-lt, mul-le-mul, mul-le-mul_left, mul-le-mul_right, mul-add, mul-one, arith, pow_mono, pow_pos}
-use Prim.Native.Nat.{ℕ, zero, suc, ◌+◌, ◌-◌, ◌*◌, ◌/◌, ◌%◌, ◌^◌, ◌≤◌, ◌<◌, ◌∣◌, min, max}
+use Prim.Native.Nat.{ℕ, ◌+◌, ◌-◌, ◌*◌, ◌/◌, ◌%◌, ◌^◌, ◌≤◌, ◌<◌, ◌∣◌, min, max}
 use Rattle.std.proofs.Math.Nat.{lt_of_not-le, div-add-mod, mod-eq-zero_of_dvd, dvd_refl, dvd-add, dvd-mul_right}
 use Rattle.std.proofs.Math.Decide.{dec_le}
 use Rattle.std.proofs.Math.Pow.{shr_mono}
@@ -190,28 +192,35 @@ next_bare e n r x = λ m z l u p.
     let j = jump e n x.s x.t x.is_length x.is_slots m z (omega arith) (x.is_end.alike m (omega arith) (omega arith)) p in
     omega arith
 
+pub none_by : (n e : ℕ) (special : Option ℕ) → is_some special ≡ false → FoundFor n e special → FoundFor n e None
+none_by n e None t f = f
+none_by n e (Some s) t f = let z : ◌≡◌ {A = ℕ} 0 1 = cc in absurd (omega arith)
+
 -- the search
 module _ (e start : ℕ) where
   pub bare_start : Bare e start start
   bare_start = λ m z l u p. omega arith
 
-  pub bare_more : (n r s : ℕ) → Bare e start n → s ≡ 0 → FoundFor n e s → Next e n r → Bare e start r
+  pub bare_more : (n r : ℕ) → Bare e start n → FoundFor n e None → Next e n r → Bare e start r
   unfolding FoundFor
-  bare_more n r zero b z f x = λ m y l u p. go m y l u p (dec_le n m) (dec_le m n)
+  bare_more n r b f x = λ m y l u p. go m y l u p (dec_le n m) (dec_le m n)
     where
       go : (m y : ℕ) → start ≤ m → m < r → SpecialLength m e y → Dec (n ≤ m) → Dec (m ≤ n) → ⊥
       go m y l u p (no h) k = b m y l (lt_of_not-le h) p
       go m y l u p (yes h) (yes k) = f y (subst (λ (i : ℕ). SpecialLength i e y) (le_antisymm k h) p)
       go m y l u p (yes h) (no k) = let i = lt_of_not-le k in next_bare e n r x m y (omega arith) u p
-  bare_more n r (suc s) b z f x = absurd (omega arith)
 
   module _ (last : ℕ) where
-    pub first_found : (n s : ℕ) → 16 < n → start ≤ n → n ≤ last → Bare e start n → (s ≡ 0 → ⊥) → FoundFor n e s → FirstLayout e start last n
+    pub first_found : (n s : ℕ) → 16 < n → start ≤ n → n ≤ last → Bare e start n → FoundFor n e (Some s) → FirstLayout e start last (Some n)
     unfolding FirstLayout FoundFor
-    first_found zero s o a b c z f = absurd (omega arith)
-    first_found (suc n) zero o a b c z f = absurd (z refl)
-    first_found (suc n) (suc s) o a b c z f = record { from = a; to = b; special = (suc s, f); bare = c }
+    first_found n s o a b c f = record { from = a; to = b; special = (s, f); bare = c }
 
-    pub first_none : (n : ℕ) → last < n → Bare e start n → FirstLayout e start last 0
+    -- the same where the code asks only whether there is a length
+    pub first_by : (n : ℕ) (special : Option ℕ) → 16 < n → start ≤ n → n ≤ last → Bare e start n → is_some special ≡ true → FoundFor n e special
+        → FirstLayout e start last (Some n)
+    first_by n None o a b c t f = let z : ◌≡◌ {A = ℕ} 0 1 = cc in absurd (omega arith)
+    first_by n (Some s) o a b c t f = first_found n s o a b c f
+
+    pub first_none : (n : ℕ) → last < n → Bare e start n → FirstLayout e start last None
     unfolding FirstLayout
     first_none n l b = λ m z i j p. b m z i (omega arith) p

@@ -1,21 +1,20 @@
 -- Laws of the lower bound: what a length needs, the loop that raises the bound, and that layouts lie above. Assumes nothing.
-use Rattle.std.specs.Prelude.{◌≡◌}
+use Rattle.std.specs.Prelude.{Option, Some, None, ◌≡◌}
 use Rattle.std.proofs.Math.Path.{refl}
-use Rattle.std.proofs.Common.{ap, le_trans, le-div_iff_mul-le, div-lt_iff_lt-mul, mul-add, mul-one, mul_left_comm, mul-le-mul_left, mod-lt, pow_pos}
-use Prim.Native.Nat.{ℕ, zero, suc, ◌+◌, ◌-◌, ◌*◌, ◌/◌, ◌%◌, ◌^◌, ◌≤◌, ◌<◌}
+use Rattle.std.proofs.Common.{ap, le_trans, le-div_iff_mul-le, div-lt_iff_lt-mul, mul-add, mul_left_comm, mod-lt, pow_pos}
+use Prim.Native.Nat.{ℕ, ◌+◌, ◌-◌, ◌*◌, ◌/◌, ◌%◌, ◌^◌, ◌≤◌, ◌<◌}
 use Rattle.std.proofs.Math.Nat.{mul_comm, mul-le-mul}
 use native.Mathlib.Omega.{arith}
 use Rattle.std.proofs.Math.Pow.{pow_mono}
+use Rattle.std.specs.Option.{SomeIff}
 use Rattle.words.specs.Log.{ceil_log2}
 use Rattle.geometry.specs.ExtremeLaws.{smallest_one}
 use Rattle.geometry.specs.Special.{loglog}
 use Rattle.geometry.specs.Funnel.{Layout}
 use Rattle.geometry.specs.LoglogLaws.{log_is}
 use Rattle.geometry.specs.LengthLaws.{length_facts}
-use Rattle.geometry_smallest.specs.declared.minimum.MinimumSlots.{MinimumSlots}
-use Rattle.geometry_smallest.specs.declared.minimum.MinimumSlots.TheVariants.{Slots, Nothing}
 use Rattle.geometry_smallest.specs.LayoutsLaws.{loglog_mono}
-use Rattle.geometry_smallest.specs.Minimum.{Roomy, Minimum, ThirdUp, Required, Raised, RustMinimum, shift, product, word, enough, again}
+use Rattle.geometry_smallest.specs.Minimum.{Roomy, Minimum, Required, Raised, RustMinimum, shift, product, word, enough, again}
 
 -- g of a word
 pub loglog_least : (n : ℕ) → 1 ≤ loglog n
@@ -43,7 +42,7 @@ module _ (l power : ℕ) (some : 0 < l) where
       omega arith
 
   module _ (rest : ℕ) (is : rest ≡ (l * (power % 3) + 2) / 3) (small : rest ≤ 18446744073709551615) where
-    pub required_none : (18446744073709551615 - rest) / l < power / 3 → Required l power 0
+    pub required_none : (18446744073709551615 - rest) / l < power / 3 → Required l power None
     unfolding Required
     required_none h =
         let a = (div-lt_iff_lt-mul some).0 h in
@@ -57,21 +56,24 @@ module _ (l power : ℕ) (some : 0 < l) where
         let b = mul_comm l (power / 3) in
         omega arith
 
-    pub required_some : 4 ≤ power → Required l power (l * (power / 3) + rest)
+    -- the same by the sum, which no word holds
+    pub required_past : 18446744073709551615 < l * (power / 3) + rest → Required l power None
     unfolding Required
-    required_some h = go (l * (power / 3) + rest) refl
-      where
-        third : 1 ≤ power / 3
-        third = omega arith
+    required_past h = let t = thirds in omega arith
 
-        go : (r : ℕ) → r ≡ l * (power / 3) + rest → Required l power r
-        go zero e = let a = mul-le-mul_left l third in let b = mul-one l in absurd (omega arith)
-        go (suc r) e = let t = thirds in record { holds = omega arith; below = λ m k. omega arith }
+    pub required_some : 4 ≤ power → Required l power (Some (l * (power / 3) + rest))
+    unfolding Required
+    required_some h = let t = thirds in record { holds = omega arith; below = λ m k. omega arith }
+
+    -- the sum that the code answers, where a word holds it
+    pub required_sum : 4 ≤ power → (sum : Option ℕ) → SomeIff sum (l * (power / 3) + rest < 2 ^ 64) (l * (power / 3) + rest) → Required l power sum
+    required_sum h None f = required_past (omega arith)
+    required_sum h (Some x) f = rw f.1 (required_some h)
 
 -- the loop
 module _ (e from : ℕ) where
   -- a large exponent leaves no room
-  pub minimum_exponent : 61 < e → Minimum e from Nothing
+  pub minimum_exponent : 61 < e → Minimum e from None
   unfolding Minimum
   minimum_exponent h = λ n r.
       let a : 64 ≤ e + 2 = omega arith in
@@ -94,36 +96,25 @@ module _ (e from : ℕ) where
         let b = r.room in
         (le-div_iff_mul-le (pow_pos (e + 2))).0 (omega arith)
 
-    module _ (l power need : ℕ) (length : l ≡ 4 * loglog n) (is-power : power ≡ 2 ^ (e + 2)) (required : Required l power need) where
+    module _ (l power need : ℕ) (length : l ≡ 4 * loglog n) (is-power : power ≡ 2 ^ (e + 2)) where
       at : (m : ℕ) → Roomy e from m → l * power ≤ 3 * m
       at m r = rw (length, is-power) (needs_at m r)
 
-      pub raised_none : need ≡ 0 → Minimum e from Nothing
+      pub raised_none : Required l power None → Minimum e from None
       unfolding Required Minimum
-      raised_none z = go need z required
-        where
-          go : (x : ℕ) → x ≡ 0 → Required l power x → Minimum e from Nothing
-          go zero y q = λ m r. let a = at m r in let f = r.fits in omega arith
-          go (suc x) y q = absurd (omega arith)
+      raised_none q = λ m r. let a = at m r in let f = r.fits in omega arith
 
-      third_up : (need ≡ 0 → ⊥) → ThirdUp (l * power) need
-      unfolding Required
-      third_up z = go need z required
-        where
-          go : (x : ℕ) → (x ≡ 0 → ⊥) → Required l power x → ThirdUp (l * power) x
-          go zero y q = absurd (y refl)
-          go (suc x) y q = q
-
-      pub raised_found : (need ≡ 0 → ⊥) → need ≤ n → Minimum e from (Slots n)
-      unfolding Minimum
-      raised_found z h =
-          let t = (third_up z).holds in
+      pub raised_found : Required l power (Some need) → need ≤ n → Minimum e from (Some n)
+      unfolding Required Minimum
+      raised_found q h =
+          let t = q.holds in
           let a : l * power ≤ 3 * n = omega arith in
           let b : 4 * loglog n * 2 ^ (e + 2) ≤ 3 * n = rw (length, is-power) at a in
           record { holds = record { above = is.above; fits = fits; room = (le-div_iff_mul-le (pow_pos (e + 2))).1 b }; below = is.below }
 
-      pub raised_more : (need ≡ 0 → ⊥) → n < need → Raised e from need
-      raised_more z h = let a = is.above in record { above = omega arith; below = λ m r. (third_up z).below m (at m r) }
+      pub raised_more : Required l power (Some need) → n < need → Raised e from need
+      unfolding Required
+      raised_more q h = let a = is.above in record { above = omega arith; below = λ m r. q.below m (at m r) }
 
 -- "only a lower bound on layouts": every layout lies at or above it, and where there is none there is no layout
 module _ (e from n : ℕ) (above : from ≤ n) (layout : Layout n e) where
@@ -137,16 +128,16 @@ module _ (e from n : ℕ) (above : from ≤ n) (layout : Layout n e) where
       let b = (le-div_iff_mul-le (pow_pos (e + 2))).1 f.part in
       record { above = above; fits = omega arith; room = omega arith }
 
-  pub minimum_below : (m : ℕ) → Minimum e from (Slots m) → m ≤ n
+  pub minimum_below : (m : ℕ) → Minimum e from (Some m) → m ≤ n
   unfolding Minimum
   minimum_below m i = i.below n layout_roomy
 
-  pub minimum_none : Minimum e from Nothing → ⊥
+  pub minimum_none : Minimum e from None → ⊥
   unfolding Minimum
   minimum_none i = i n layout_roomy
 
 -- what the Rust answers is the smallest, or that there is none
-rust_from : {e n : ℕ} {a : MinimumSlots} (from : ℕ) → Raised e from n → n ≤ 18446744073709551615 → RustMinimum e n a → Minimum e from a
+rust_from : {e n : ℕ} {a : Option ℕ} (from : ℕ) → Raised e from n → n ≤ 18446744073709551615 → RustMinimum e n a → Minimum e from a
 unfolding Minimum
 rust_from {e} {n} from i f (shift h) = minimum_exponent e from (omega arith)
 rust_from {e} {n} from i f (product h) = λ m r.
@@ -165,17 +156,17 @@ rust_from {e} {n} from i f (again r x h k rest) =
     let a = i.above in
     rust_from from (record { above = omega arith; below = λ m y. x.below m (needs_at e from n i f m y) }) k rest
 
-pub rust_minimum : {e from : ℕ} {a : MinimumSlots} → from ≤ 18446744073709551615 → RustMinimum e from a → Minimum e from a
+pub rust_minimum : {e from : ℕ} {a : Option ℕ} → from ≤ 18446744073709551615 → RustMinimum e from a → Minimum e from a
 rust_minimum {e} {from} f x = rust_from from (raised_start e from) f x
 
 -- the answer is one
-pub minimum_unique : (e from : ℕ) (a b : MinimumSlots) → Minimum e from a → Minimum e from b → a ≡ b
+pub minimum_unique : (e from : ℕ) (a b : Option ℕ) → Minimum e from a → Minimum e from b → a ≡ b
 unfolding Minimum
-minimum_unique e from (Slots n) (Slots m) x y = ap Slots (smallest_one x y)
-minimum_unique e from (Slots n) Nothing x y = absurd (y n x.holds)
-minimum_unique e from Nothing (Slots m) x y = absurd (x m y.holds)
-minimum_unique e from Nothing Nothing x y = refl
+minimum_unique e from (Some n) (Some m) x y = ap Some (smallest_one x y)
+minimum_unique e from (Some n) None x y = absurd (y n x.holds)
+minimum_unique e from None (Some m) x y = absurd (x m y.holds)
+minimum_unique e from None None x y = refl
 
 -- so what the code answers is what the Rust answers, `Nothing` exactly where the Rust gives `None`
-pub rust_same : {e from : ℕ} {a b : MinimumSlots} → from ≤ 18446744073709551615 → RustMinimum e from a → Minimum e from b → a ≡ b
+pub rust_same : {e from : ℕ} {a b : Option ℕ} → from ≤ 18446744073709551615 → RustMinimum e from a → Minimum e from b → a ≡ b
 rust_same {e} {from} {a} {b} f x y = minimum_unique e from a b (rust_minimum f x) y

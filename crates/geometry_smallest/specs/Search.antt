@@ -1,5 +1,5 @@
 -- What the search for the smallest n answers, before its plan is worked out. Assumes nothing.
-use Rattle.std.specs.Prelude.{ℕ, zero, suc, ◌≤◌}
+use Rattle.std.specs.Prelude.{Option, Some, None, ℕ, ◌≤◌}
 use Rattle.geometry.specs.Config.{maximum}
 use Rattle.geometry.specs.Extreme.{IsLargest, IsSmallest}
 use Rattle.geometry.specs.Special.{SpecialLength}
@@ -11,7 +11,7 @@ pub record Serves (count e first last n : ℕ) : Type 0 where
   pub enough : count ≤ maximum n e
   pub special : (s : ℕ) × IsLargest (SpecialLength n e) s
 
--- the smallest, or 0 where there is none
-unfoldable pub SlotsFound : (count e first last r : ℕ) → Type 0
-SlotsFound count e first last zero = (n : ℕ) → Serves count e first last n → ⊥
-SlotsFound count e first last (suc r) = IsSmallest (Serves count e first last) (suc r)
+-- the smallest, or None where there is none
+unfoldable pub SlotsFound : (count e first last : ℕ) → Option ℕ → Type 0
+SlotsFound count e first last None = (n : ℕ) → Serves count e first last n → ⊥
+SlotsFound count e first last (Some n) = IsSmallest (Serves count e first last) n

@@ -1,4 +1,5 @@
 -- Laws of the smallest n that a count asks for. Assumes nothing.
+use Rattle.std.specs.Prelude.{max}
 use Rattle.std.specs.Prelude.{◌≡◌, ℕ, ◌+◌, ◌-◌, ◌*◌, ◌/◌, ◌%◌, ◌^◌, ◌≤◌, ◌<◌}
 use Rattle.std.proofs.Common.{lt_of_not-le, mod-lt, mul-le-mul_left, mul-add, add-mul, one-mul, mul-one, arith, pow_mono}
 use Rattle.std.proofs.Math.Nat.{div-add-mod}
@@ -64,6 +65,15 @@ module _ (count e power : ℕ) (some : 0 < count) (exponent : 0 < e) (is : power
 
 -- where the search starts
 module _ (count e first need : ℕ) (is : Needed count e need) where
+  pub start_most : Start count e first (max (max need first) 17)
+  start_most =
+      record {
+        from = omega arith;
+        above = omega arith;
+        enough = λ n l. is.enough n (omega arith);
+        passed = λ n l k m. let z = is.least n k in omega arith;
+      }
+
   pub start_few : first < 17 → need < 17 → Start count e first 17
   start_few a b = record { from = omega arith; above = omega arith; enough = λ n l. is.enough n (omega arith); passed = λ n l k m. omega arith }
 

@@ -1,5 +1,5 @@
 -- The search is short: never more than 12e + 3 turns. Assumes nothing.
-use Rattle.std.specs.Prelude.{◌≡◌, refl, ℕ, zero, suc, ◌+◌, ◌-◌, ◌*◌, ◌/◌, ◌%◌, ◌^◌, ◌≤◌, ◌<◌, min, max}
+use Rattle.std.specs.Prelude.{None, ◌≡◌, refl, ℕ, zero, suc, ◌+◌, ◌-◌, ◌*◌, ◌/◌, ◌%◌, ◌^◌, ◌≤◌, ◌<◌, min, max}
 use Rattle.std.proofs.Common.{sym, ap, subst, ◌∙◌, lt_of_not-le, le_antisymm, le-div_iff_mul-le, div-lt_iff_lt-mul, mod-lt, mul-le-mul_right, mul-le-mul_left, mul_left_comm, mul-one, lt_of_mul-lt-mul_right, pow-suc}
 use Rattle.std.specs.Int.{◌∣◌}
 use Rattle.std.proofs.Math.Nat.{div-add-mod, dvd_of_mod-eq-zero, dvd-mul_right, dvd-add, dvd_refl, add-mul, one-mul}
@@ -49,15 +49,20 @@ module _ (e n r p : ℕ) (x : Next e n r) (y : Next e n p) where
       omega arith
 
 -- a turn of the code: one of those that are left
-pub ends_more : (e last n j s r : ℕ) → Ends e last n j → n ≤ last → s ≡ 0 → FoundFor n e s → Next e n r → (0 < j) × Ends e last r (j - 1)
+pub ends_more : (e last n j r : ℕ) → Ends e last n j → n ≤ last → FoundFor n e None → Next e n r → (0 < j) × Ends e last r (j - 1)
 unfolding FoundFor
-ends_more e last n j (suc s) r t l z f x = absurd (omega arith)
-ends_more e last n j zero r (past h) l z f x = absurd (omega arith)
-ends_more e last n (suc k) zero r (here s p) l z f x = absurd (f s p)
-ends_more e last n (suc k) zero r (turn p y t) l z f x =
+ends_more e last n j r (past h) l f x = absurd (omega arith)
+ends_more e last n (suc k) r (here s p) l f x = absurd (f s p)
+ends_more e last n (suc k) r (turn p y t) l f x =
     let h : k ≡ suc k - 1 = omega arith in
     let u : Ends e last r k = subst (λ (i : ℕ). Ends e last i k) (next_unique e n p r y x) t in
     (omega arith, subst (λ (i : ℕ). Ends e last r i) h u)
+
+-- with no turn left the search is past the last n
+pub ends_past : (e last n j : ℕ) → Ends e last n j → j ≡ 0 → last < n
+ends_past e last n j (past h) z = h
+ends_past e last n (suc k) (here s p) z = absurd (omega arith)
+ends_past e last n (suc k) (turn r x t) z = absurd (omega arith)
 
 -- powers: 2 ^ (e + 1) against e
 double : (e : ℕ) → 2 ^ (e + 2) ≡ 2 * 2 ^ (e + 1)

@@ -6,23 +6,22 @@ use crate::slots::power_of_two;
 use geometry::config::LARGEST_N;
 use geometry_parts::special::{base_two_loglog_ceiling, special_least, special_len_of};
 
-// The smallest n from `start` to `last` that has a special length; 0 where there is none. The turns that are left are the loop's
-// measure: there are never more than 12e + 3.
-pub fn first_layout(e: u64, start: u64, last: u64) -> u64
+// The smallest n from `start` to `last` that has a special length: there are never more than 12e + 3 turns.
+pub fn first_layout(e: u64, start: u64, last: u64) -> Option<u64>
     requires { (3 ≤ e) × (e ≤ 27) × (16 < start) × (last ≤ 4294967296) }
     ensures { FirstLayout e start last result }
 {
     let mut n = start;
-    let mut turns = 12 * e + 3;
-    while n <= last {
-        let s = special_len_of(n, e);
-        if s != 0 {
-            return n;
+    for _ in 0..12 * e + 3 {
+        if last < n {
+            return None;
+        }
+        if special_len_of(n, e).is_some() {
+            return Some(n);
         }
         n = next_slots(n, e);
-        turns -= 1;
     }
-    0
+    None
 }
 
 // The next n to ask: none between the two has a special length.
@@ -62,7 +61,7 @@ fn slots_from(s: u64, e: u64) -> u64
 {
     let part = (s * power_of_two(e + 2) + 2) / 3;
     let main = s + (4 * e + 10) * (2 * e);
-    if part < main { main } else { part }
+    part.max(main)
 }
 
 // The last n with the same g.

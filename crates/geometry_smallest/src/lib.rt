@@ -9,7 +9,7 @@
 //     the maximum never falls as n grows, so a count asks for an n of at least count + (count - 1) / (2^e - 1).
 //
 // A turn of the search asks one n. Where its range of s holds a length, only the division by beta can fail, and one of any beta
-// n in a row passes it, so there are few turns: never more than 12e + 3, which is the loop's measure, and 79 at most among all that
+// n in a row passes it, so there are few turns: never more than 12e + 3, which the loop counts, and 79 at most among all that
 // were tried.
 //
 //     smallest.rt   the call: its refusals, the smallest n, its plan

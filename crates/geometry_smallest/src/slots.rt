@@ -7,17 +7,7 @@ pub fn start_slots(count: u64, e: u64, first: u64) -> u64
     requires { (count ≤ 4294967296) × (0 < e) × (e ≤ 27) }
     ensures { Start count e first result }
 {
-    let need = needed_slots(count, e);
-    if first < 17 {
-        if need < 17 {
-            return 17;
-        }
-        return need;
-    }
-    if need < first {
-        return first;
-    }
-    need
+    needed_slots(count, e).max(first).max(17)
 }
 
 // The smallest n whose maximum is at least the count.

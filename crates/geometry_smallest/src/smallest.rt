@@ -2,20 +2,35 @@
 ghost use Rattle.std.specs.Prelude.{◌≡◌, ◌≤◌};
 ghost use Rattle.geometry_smallest.specs.Smallest.{Answer, smallest_gate};
 ghost use Rattle.geometry_smallest.specs.Search.{SlotsFound};
+ghost use Rattle.geometry_smallest.specs.declared.smallest.SmallestRefusal.TheVariants.{Refused};
 
 use crate::layouts::first_layout;
 use crate::slots::start_slots;
-use geometry::config::{Gated, LARGEST_N};
-use geometry::funnel::{FunnelPlan, FunnelPlanned};
+use geometry::config::LARGEST_N;
+use geometry::funnel::FunnelPlan;
 use geometry_funnel::plan::funnel_plan;
 use refusal::Gate;
 
-// What the question is answered: n with its plan, a refusal of the gate, or NONE.
+// The smallest n, with its plan.
 #[derive(Clone, Copy)]
-pub enum SmallestFunnel {
-    Found(u64, FunnelPlan),
+pub struct Smallest {
+    pub n: u64,
+    pub plan: FunnelPlan,
+}
+
+// A refusal of the gate, or NONE.
+#[derive(Clone, Copy)]
+pub enum SmallestRefusal {
     Refused(Gate),
     Nothing,
+}
+
+impl From<Gate> for SmallestRefusal {
+    ghost from_gives = { λ gate refusal. refusal ≡ Refused gate };
+
+    fn from(gate: Gate) -> SmallestRefusal {
+        SmallestRefusal::Refused(gate)
+    }
 }
 
 // The smallest n from `first` to `last` that has a layout and takes `count` members, with its plan; the counts of its levels are
@@ -26,55 +41,44 @@ pub fn smallest_funnel(
     first: u64,
     last: u64,
     counts: &mut [u64; 118],
-) -> SmallestFunnel
+) -> Result<Smallest, SmallestRefusal>
     ensures { Answer count e first last counts.old result counts.new }
 {
-    let gated = smallest_gate(e, first, last);
-    match gated {
-        Gated::Refused(g) => SmallestFunnel::Refused(g),
-        Gated::Passed => {
-            let n = smallest_slots(count, e as u64, first, last);
-            if n == 0 {
-                return SmallestFunnel::Nothing;
-            }
-            let planned = funnel_plan(n, e, counts);
-            match planned {
-                FunnelPlanned::Plan(p) => SmallestFunnel::Found(n, p),
-                FunnelPlanned::Refused(g) => SmallestFunnel::Refused(g),
-            }
-        }
-    }
+    smallest_gate(e, first, last)?;
+    let n = smallest_slots(count, e as u64, first, last).ok_or(SmallestRefusal::Nothing)?;
+    let plan = funnel_plan(n, e, counts)?;
+    Ok(Smallest { n, plan })
 }
 
 // The tests N, ZEROEXP, SIZE, EXPONENT of the question.
-pub fn smallest_gate(e: u32, first: u64, last: u64) -> Gated
+pub fn smallest_gate(e: u32, first: u64, last: u64) -> Result<(), Gate>
     ensures { result ≡ smallest_gate e first last }
 {
     if first < 2 {
-        return Gated::Refused(Gate::N);
+        return Err(Gate::N);
     }
     if e == 0 {
-        return Gated::Refused(Gate::ZeroExp);
+        return Err(Gate::ZeroExp);
     }
     if LARGEST_N < last {
-        return Gated::Refused(Gate::Size);
+        return Err(Gate::Size);
     }
     if e < 3 {
-        return Gated::Refused(Gate::Exponent);
+        return Err(Gate::Exponent);
     }
-    Gated::Passed
+    Ok(())
 }
 
-// The smallest n alone; 0 where there is none. No exponent above 27 has a layout, and no table takes more than its slots.
-fn smallest_slots(count: u64, e: u64, first: u64, last: u64) -> u64
+// The smallest n alone. No exponent above 27 has a layout, and no table takes more than its slots.
+fn smallest_slots(count: u64, e: u64, first: u64, last: u64) -> Option<u64>
     requires { (3 ≤ e) × (last ≤ 4294967296) }
     ensures { SlotsFound count e first last result }
 {
     if 27 < e {
-        return 0;
+        return None;
     }
     if last < count {
-        return 0;
+        return None;
     }
     first_layout(e, start_slots(count, e, first), last)
 }

@@ -1,5 +1,5 @@
 -- The answer block: 128 bytes, a little-endian word of eight bytes for each number that a call answers, zeros elsewhere. Assumes nothing.
-use Rattle.std.specs.Prelude.{List, [], ◌∷◌, ℕ, eqb, length, replicate}
+use Rattle.std.specs.Prelude.{Ok, Err, List, [], ◌∷◌, ℕ, eqb, length, replicate}
 use Rattle.std.proofs.lemmas.List.Edits.{sets}
 use Rattle.words.specs.Bytes.{bytes_of}
 use Rattle.words.specs.Pick.{pick}
@@ -7,10 +7,9 @@ use Rattle.words.specs.declared.place.Place.{Place}
 use Rattle.words.specs.declared.place.Place.TheVariants as place
 use Rattle.funnel.specs.declared.table.Search.{Search}
 use Rattle.funnel.specs.declared.table.Search.TheVariants as search
-use Rattle.funnel.specs.declared.table.Insertion.{Insertion}
-use Rattle.funnel.specs.declared.table.Insertion.TheVariants as insertion
-use Rattle.funnel.specs.declared.table.Placement.{Placement}
-use Rattle.funnel.specs.declared.table.Placement.TheVariants as placement
+use Rattle.funnel.specs.declared.table.InsertRefusal.TheVariants as insertion
+use Rattle.funnel.specs.declared.table.PlaceRefusal.TheVariants as placement
+use Rattle.funnel.specs.Insert.{Insertion, Placement}
 
 -- "a lent 128-byte block"
 abbrev pub answer_length : ℕ
@@ -82,18 +81,18 @@ search_fields (search.Full probes) = field probes_at probes ∷ []
 search_fields (search.Range refusal) = field words_at refusal.words ∷ []
 
 abbrev pub insertion_fields : Insertion → List Field
-insertion_fields (insertion.Inserted probes place) = field probes_at probes ∷ place_fields place
-insertion_fields (insertion.Range refusal) = field words_at refusal.words ∷ []
-insertion_fields (insertion.Duplicate probes place) = field probes_at probes ∷ place_fields place
-insertion_fields (insertion.Exhausted probes) = field probes_at probes ∷ []
-insertion_fields (insertion.Full probes) = field probes_at probes ∷ []
+insertion_fields (Ok put) = field probes_at put.probes ∷ place_fields put.place
+insertion_fields (Err (insertion.Range refusal)) = field words_at refusal.words ∷ []
+insertion_fields (Err (insertion.Duplicate probes place)) = field probes_at probes ∷ place_fields place
+insertion_fields (Err (insertion.Exhausted probes)) = field probes_at probes ∷ []
+insertion_fields (Err (insertion.Full probes)) = field probes_at probes ∷ []
 
 -- how many of so many identities have their slot, and what the first refusal carries
 abbrev pub placement_fields : Placement → ℕ → List Field
-placement_fields placement.All total = field placed_at total ∷ []
-placement_fields (placement.Range index refusal) total = field placed_at index ∷ field words_at refusal.words ∷ []
-placement_fields (placement.Exhausted index probes) total = field placed_at index ∷ field probes_at probes ∷ []
-placement_fields (placement.Full index probes) total = field placed_at index ∷ field probes_at probes ∷ []
+placement_fields (Ok _) total = field placed_at total ∷ []
+placement_fields (Err (placement.Range index refusal)) total = field placed_at index ∷ field words_at refusal.words ∷ []
+placement_fields (Err (placement.Exhausted index probes)) total = field placed_at index ∷ field probes_at probes ∷ []
+placement_fields (Err (placement.Full index probes)) total = field placed_at index ∷ field probes_at probes ∷ []
 
 -- what a call answers: the number of its refusal, 0 where there is none, and the answer block
 pub record Reply : Type 0 where

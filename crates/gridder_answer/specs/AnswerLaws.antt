@@ -6,8 +6,7 @@ use Rattle.std.proofs.lemmas.List.Edits.{sets}
 use Rattle.words.specs.Bytes.{bytes_of}
 use Rattle.funnel.specs.Calls.{search_report, insertion_report, placement_report}
 use Rattle.funnel.specs.declared.table.Search.{Search}
-use Rattle.funnel.specs.declared.table.Insertion.{Insertion}
-use Rattle.funnel.specs.declared.table.Placement.{Placement}
+use Rattle.funnel.specs.Insert.{Insertion, Placement}
 use Rattle.gridder_answer.specs.Answer.{answer_length, Field, stored, says, search_fields, insertion_fields, placement_fields, reply, saying}
 
 pub reply_is : (m n : ℕ) (a b : List ℕ) → m ≡ n → a ≡ b → reply m a ≡ reply n b

@@ -1,10 +1,10 @@
 // The answer block: where each number of an answer lies in it (see lib.rt), written.
-ghost use Rattle.std.specs.Prelude.{[], ◌∷◌, ◌≡◌, ◌+◌, ◌≤◌, length};
+ghost use Rattle.std.specs.Prelude.{[], ◌∷◌, ◌≡◌, ◌+◌, ◌≤◌};
 ghost use Rattle.refusal.specs.Table.{number_of, name_of};
 ghost use Rattle.funnel.specs.Calls.{search_report, insertion_report, placement_report};
 ghost use Rattle.gridder_answer.specs.Answer.{field, stored, says, saying, probes_at, bucket_at, within_at, slot_at, found_at, place_fields, search_fields, insertion_fields, placement_fields, reply};
 
-use funnel::table::{Insertion, Placement, Search};
+use funnel::table::{InsertRefusal, PlaceRefusal, Reached, Search};
 use refusal::{Gate, Name, gate_name, number};
 use words::bytes::write64;
 use words::clear::clear_bytes;
@@ -44,8 +44,7 @@ pub fn say_gate(answer: &mut [u8], gate: Gate) -> u64
 }
 
 // What a search found.
-pub fn say_search(answer: &mut [u8], found: Search) -> u64
-    requires { length answer.old ≡ 128 }
+pub fn say_search(answer: &mut [u8; ANSWER_LENGTH], found: Search) -> u64
     ensures { reply result answer.new ≡ reply (search_report found).number (says (search_fields found)) }
 {
     match found {
@@ -69,28 +68,27 @@ pub fn say_search(answer: &mut [u8], found: Search) -> u64
 }
 
 // What an insertion is answered.
-pub fn say_insertion(answer: &mut [u8], done: Insertion) -> u64
-    requires { length answer.old ≡ 128 }
+pub fn say_insertion(answer: &mut [u8; ANSWER_LENGTH], done: Result<Reached, InsertRefusal>) -> u64
     ensures { reply result answer.new ≡ reply (insertion_report done).number (says (insertion_fields done)) }
 {
     match done {
-        Insertion::Inserted { probes, place } => {
+        Ok(Reached { probes, place }) => {
             say_reached(answer, probes, place);
             0
         }
-        Insertion::Range(refusal) => {
+        Err(InsertRefusal::Range(refusal)) => {
             say_number(answer, WORDS, refusal.words);
             number(Name::Range)
         }
-        Insertion::Duplicate { probes, place } => {
+        Err(InsertRefusal::Duplicate { probes, place }) => {
             say_reached(answer, probes, place);
             number(Name::Duplicate)
         }
-        Insertion::Exhausted { probes } => {
+        Err(InsertRefusal::Exhausted { probes }) => {
             say_number(answer, PROBES, probes);
             number(Name::Exhausted)
         }
-        Insertion::Full { probes } => {
+        Err(InsertRefusal::Full { probes }) => {
             say_number(answer, PROBES, probes);
             number(Name::Full)
         }
@@ -98,24 +96,27 @@ pub fn say_insertion(answer: &mut [u8], done: Insertion) -> u64
 }
 
 // How far a placement of so many identities came.
-pub fn say_placement(answer: &mut [u8], done: Placement, total: u64) -> u64
-    requires { length answer.old ≡ 128 }
+pub fn say_placement(
+    answer: &mut [u8; ANSWER_LENGTH],
+    done: Result<(), PlaceRefusal>,
+    total: u64,
+) -> u64
     ensures { reply result answer.new ≡ reply (placement_report done).number (says (placement_fields done total)) }
 {
     match done {
-        Placement::All => {
+        Ok(()) => {
             say_number(answer, PLACED, total);
             0
         }
-        Placement::Range { index, refusal } => {
+        Err(PlaceRefusal::Range { index, refusal }) => {
             say_both(answer, PLACED, index, WORDS, refusal.words);
             number(Name::Range)
         }
-        Placement::Exhausted { index, probes } => {
+        Err(PlaceRefusal::Exhausted { index, probes }) => {
             say_both(answer, PLACED, index, PROBES, probes);
             number(Name::Exhausted)
         }
-        Placement::Full { index, probes } => {
+        Err(PlaceRefusal::Full { index, probes }) => {
             say_both(answer, PLACED, index, PROBES, probes);
             number(Name::Full)
         }
@@ -123,8 +124,8 @@ pub fn say_placement(answer: &mut [u8], done: Placement, total: u64) -> u64
 }
 
 // One number alone.
-pub fn say_number(answer: &mut [u8], at: usize, x: u64)
-    requires { (length answer.old ≡ 128) × (at + 8 ≤ 128) }
+pub fn say_number(answer: &mut [u8; ANSWER_LENGTH], at: usize, x: u64)
+    requires { at + 8 ≤ 128 }
     ensures { answer.new ≡ says (field at x ∷ []) }
 {
     clear_bytes(answer);
@@ -132,8 +133,8 @@ pub fn say_number(answer: &mut [u8], at: usize, x: u64)
 }
 
 // Two numbers alone.
-pub fn say_both(answer: &mut [u8], at: usize, x: u64, to: usize, y: u64)
-    requires { (length answer.old ≡ 128) × (at + 8 ≤ 128) × (to + 8 ≤ 128) }
+pub fn say_both(answer: &mut [u8; ANSWER_LENGTH], at: usize, x: u64, to: usize, y: u64)
+    requires { (at + 8 ≤ 128) × (to + 8 ≤ 128) }
     ensures { answer.new ≡ says (field at x ∷ field to y ∷ []) }
 {
     clear_bytes(answer);
@@ -142,8 +143,7 @@ pub fn say_both(answer: &mut [u8], at: usize, x: u64, to: usize, y: u64)
 }
 
 // A place and the probes it took.
-fn say_reached(answer: &mut [u8], probes: u64, place: Place)
-    requires { length answer.old ≡ 128 }
+fn say_reached(answer: &mut [u8; ANSWER_LENGTH], probes: u64, place: Place)
     ensures { answer.new ≡ says (field probes_at probes ∷ place_fields place) }
 {
     clear_bytes(answer);
@@ -152,8 +152,7 @@ fn say_reached(answer: &mut [u8], probes: u64, place: Place)
 }
 
 // The same where a search met the identity.
-fn say_hit(answer: &mut [u8], probes: u64, place: Place)
-    requires { length answer.old ≡ 128 }
+fn say_hit(answer: &mut [u8; ANSWER_LENGTH], probes: u64, place: Place)
     ensures { answer.new ≡ says (field probes_at probes ∷ field found_at 1 ∷ place_fields place) }
 {
     clear_bytes(answer);
@@ -163,8 +162,7 @@ fn say_hit(answer: &mut [u8], probes: u64, place: Place)
 }
 
 // A place, over what the block holds.
-fn say_place(answer: &mut [u8], place: Place)
-    requires { length answer.old ≡ 128 }
+fn say_place(answer: &mut [u8; ANSWER_LENGTH], place: Place)
     ensures { answer.new ≡ stored answer.old (place_fields place) }
 {
     match place {
@@ -195,8 +193,7 @@ fn say_place(answer: &mut [u8], place: Place)
 }
 
 // A bucket, the slot in it and the global slot, over what the block holds.
-fn say_within(answer: &mut [u8], bucket: u64, within: u64, slot: u64)
-    requires { length answer.old ≡ 128 }
+fn say_within(answer: &mut [u8; ANSWER_LENGTH], bucket: u64, within: u64, slot: u64)
     ensures { answer.new ≡ stored answer.old (field bucket_at bucket ∷ field within_at within ∷ field slot_at slot ∷ []) }
 {
     write64(answer, BUCKET, bucket);

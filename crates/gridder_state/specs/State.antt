@@ -1,5 +1,5 @@
 -- The state block: 2,048 bytes that hold a table's numbers, each a little-endian word of eight bytes. Assumes nothing.
-use Rattle.std.specs.Prelude.{Bool, false, List, [], ◌∷◌, ℕ, eqb, ltb, length, replicate}
+use Rattle.std.specs.Prelude.{Bool, true, false, ◌≡◌, Option, Some, None, List, [], ◌∷◌, ℕ, eqb, ltb, length, replicate}
 use Rattle.std.proofs.lemmas.List.Edits.{sets}
 use Rattle.words.specs.Bytes.{bytes_of, num_at}
 use Rattle.words.specs.Pick.{pick}
@@ -55,6 +55,11 @@ table_in b =
 -- the counts of its levels
 unfoldable pub counts_in : List ℕ → List ℕ
 counts_in b = words_from b counts_at 118
+
+-- what is read of a block: the table that it holds with the counts of its levels, or none, which leaves the counts that are lent
+unfoldable pub Reads : (state before : List ℕ) → Option FunnelTable → (counts : List ℕ) → Type 0
+Reads state before None counts = (holds_funnel state ≡ false) × (counts ≡ before)
+Reads state before (Some table) counts = (holds_funnel state ≡ true) × (table ≡ table_in state) × (counts ≡ counts_in state)
 
 -- the words of a table, in the order of a block
 abbrev pub plan_words : FunnelPlan → List ℕ

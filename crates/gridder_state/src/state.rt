@@ -1,8 +1,8 @@
 // The state block: where a table's numbers lie in it (see lib.rt), read and written.
-ghost use Rattle.std.specs.Prelude.{true, ◌≡◌, ◌+◌, ◌*◌, ◌≤◌, length};
+ghost use Rattle.std.specs.Prelude.{◌≡◌, ◌+◌, ◌*◌, ◌≤◌, length};
 ghost use Rattle.std.proofs.lemmas.List.Edits.{sets};
-ghost use Rattle.lent.specs.Lent.{lent, words_from};
-ghost use Rattle.gridder_state.specs.State.{holds_funnel, plan_in, table_in, counts_in, funnel_block, with_count_in};
+ghost use Rattle.lent.specs.Lent.{lent};
+ghost use Rattle.gridder_state.specs.State.{holds_funnel, Reads, plan_in, counts_in, funnel_block, with_count_in};
 
 use funnel::table::FunnelTable;
 use geometry::funnel::FunnelPlan;
@@ -24,68 +24,53 @@ const COUNTS: usize = 136;
 pub fn holds_funnel(state: &[u8]) -> bool
     ensures { result ≡ holds_funnel state.now }
 {
-    if state.len() != STATE_LENGTH {
-        return false;
-    }
-    if read64(state, 0) != FUNNEL_KIND {
-        return false;
-    }
-    read64(state, 16) < 4294967296
+    state.len() == STATE_LENGTH && read64(state, 0) == FUNNEL_KIND && read64(state, 16) < 4294967296
 }
 
-// The table that a block holds.
-pub fn table_in(state: &[u8]) -> FunnelTable
-    requires { holds_funnel state.now ≡ true }
-    ensures { result ≡ table_in state.now }
+// The table that a block holds, with the counts of its levels into an array; None where it holds none.
+pub fn read_table(state: &[u8], counts: &mut [u64; 118]) -> Option<FunnelTable>
+    ensures { Reads state.now counts.old result counts.new }
 {
-    let e = read64(state, 16);
-    let plan = plan_in(state);
-    FunnelTable {
-        n: read64(state, 8),
-        e: e as u32,
-        seed: read64(state, 24),
-        word_cap: read64(state, 32),
-        count: read64(state, COUNT),
-        plan,
+    if !holds_funnel(state) {
+        return None;
     }
+    let block = state.as_array()?;
+    read_counts(block, counts);
+    Some(FunnelTable {
+        n: read64(block, 8),
+        e: read64(block, 16) as u32,
+        seed: read64(block, 24),
+        word_cap: read64(block, 32),
+        count: read64(block, COUNT),
+        plan: plan_in(block),
+    })
 }
 
 // The plan in a block.
-fn plan_in(state: &[u8]) -> FunnelPlan
-    requires { length state.now ≡ 2048 }
-    ensures { result ≡ plan_in state.now }
+fn plan_in(block: &[u8; STATE_LENGTH]) -> FunnelPlan
+    ensures { result ≡ plan_in block.now }
 {
     FunnelPlan {
-        maximum: read64(state, 48),
-        alpha: read64(state, 56),
-        beta: read64(state, 64),
-        loglog_ceiling: read64(state, 72),
-        fallback_bucket_width: read64(state, 80),
-        special_len: read64(state, 88),
-        special_primary_len: read64(state, 96),
-        special_fallback_len: read64(state, 104),
-        fallback_bucket_count: read64(state, 112),
-        total_buckets: read64(state, 120),
-        first_bucket_count: read64(state, 128),
+        maximum: read64(block, 48),
+        alpha: read64(block, 56),
+        beta: read64(block, 64),
+        loglog_ceiling: read64(block, 72),
+        fallback_bucket_width: read64(block, 80),
+        special_len: read64(block, 88),
+        special_primary_len: read64(block, 96),
+        special_fallback_len: read64(block, 104),
+        fallback_bucket_count: read64(block, 112),
+        total_buckets: read64(block, 120),
+        first_bucket_count: read64(block, 128),
     }
 }
 
 // The counts of a table's levels, into an array.
-pub fn read_counts(state: &[u8], counts: &mut [u64; 118])
-    requires { length state.now ≡ 2048 }
-    ensures { counts.new ≡ counts_in state.now }
+fn read_counts(block: &[u8; STATE_LENGTH], counts: &mut [u64; 118])
+    ensures { counts.new ≡ counts_in block.now }
 {
-    fill_counts(state, counts);
-}
-
-fn fill_counts(state: &[u8], counts: &mut [u64])
-    requires { (length state.now ≡ 2048) × (length counts.old ≡ 118) }
-    ensures { counts.new ≡ words_from state.now 136 118 }
-{
-    let mut i = 0;
-    while i < 118 {
-        counts[i] = read64(state, COUNTS + i * 8);
-        i += 1;
+    for (i, count) in counts.iter_mut().enumerate() {
+        *count = read64(block, COUNTS + i * 8);
     }
 }
 
@@ -98,7 +83,7 @@ pub fn write_table(state: &mut [u8], table: FunnelTable, counts: &[u64; 118])
     let header = [
         FUNNEL_KIND,
         table.n,
-        wide(table.e),
+        u64::from(table.e),
         table.seed,
         table.word_cap,
         table.count,
@@ -119,21 +104,13 @@ pub fn write_table(state: &mut [u8], table: FunnelTable, counts: &[u64; 118])
     write_words(state, COUNTS, counts);
 }
 
-fn wide(x: u32) -> u64
-    ensures { result ≡ x }
-{
-    x as u64
-}
-
 // Words as bytes from an offset on.
 pub fn write_words(out: &mut [u8], at: usize, words: &[u64])
     requires { at + length words.now * 8 ≤ length out.old }
     ensures { out.new ≡ sets out.old at (lent words.now) }
 {
-    let mut i = 0;
-    while i < words.len() {
-        write64(out, at + i * 8, words[i]);
-        i += 1;
+    for (i, word) in words.iter().enumerate() {
+        write64(out, at + i * 8, *word);
     }
 }
 

@@ -85,7 +85,7 @@ fn write_all<E: Stored>(
     write_number::<8>(out, behind_entries, 6, entries);
 }
 
-// What names a table.
+// What names a table. Neither type is of this crate, so there is no From between them.
 pub fn head_of(table: FunnelTable) -> Head
     ensures { result ≡ head_of table }
 {

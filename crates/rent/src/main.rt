@@ -12,185 +12,87 @@
 
 #![tactic(auto)]
 
-ghost use Rattle.std.specs.Prelude.{◌≤◌, ◌≡◌};
-ghost use Rattle.words.specs.Pick.{pick};
-ghost use Rattle.text.specs.Line.{Leaves};
+ghost use Rattle.std.specs.Prelude.{◌≤◌};
 
 use geometry::config::LARGEST_N;
-use geometry_smallest::smallest::{SmallestFunnel, smallest_funnel};
+use geometry_smallest::smallest::{SmallestRefusal, smallest_funnel};
 use refusal::Name;
-use std::io::Read;
-use text::field::{Row, numbers, were_exactly};
-use text::line::{Gathered, gather};
-use text::out::{flush, put, put_byte, put_decimal, put_field, put_row};
+use text::field::Fields;
+use text::line::{Answer, answer_lines};
+use text::out::Out;
 
-// Four numbers and some leading zeros; one byte more tells a longer line.
-const LONGEST: usize = 128;
+struct Rents;
 
 // Where a range begins if the line does not say so: "first below 2 is N".
 const FIRST: u64 = 2;
 
-// How far the program is: the bytes of the line so far, and the place in the output.
-#[derive(Clone, Copy)]
-struct Progress {
-    length: usize,
-    at: usize,
-}
-
 // What a line asks.
 #[derive(Clone, Copy)]
-enum Query {
-    Of {
-        count: u64,
-        e: u32,
-        first: u64,
-        last: u64,
-    },
-    Unknown,
+struct Query {
+    count: u64,
+    e: u32,
+    first: u64,
+    last: u64,
 }
 
 fn main(rt: HostRuntime) {
-    let mut input = rt.stdin();
-    let mut chunk = io::large_buffer();
-    let mut out = io::large_buffer();
-    let mut line = [0u8; 129];
-    let mut now = Progress { length: 0, at: 0 };
-    // A proved loop ends; nobody feeds it this often.
-    let mut turns = u64::MAX;
-    while 0 < turns {
-        // A read that fails ends the input.
-        let n = input.read(&mut chunk).unwrap_or(0);
-        if n == 0 {
-            finish(&line, &mut out, now);
-            return;
+    // Four numbers and some leading zeros go into 128 bytes; one byte more tells a longer line.
+    answer_lines::<Rents, _>(&mut rt.stdin(), &mut [0; 129]);
+}
+
+impl Answer for Rents {
+    fn answer(line: Option<&[u8]>, out: &mut Out) {
+        match line.and_then(parse) {
+            Some(query) => answer_query(query, out),
+            None => out.byte(b'?'),
         }
-        now = take(&chunk[..n], &mut line, &mut out, now);
-        turns -= 1;
+        out.byte(b'\n');
     }
 }
 
-// The last line may lack its newline.
-fn finish(line: &[u8], out: &mut [u8], now: Progress) {
-    if 0 < now.length {
-        let at = answer(line, now.length, out, now.at);
-        flush(out, at);
-        return;
-    }
-    flush(out, now.at);
-}
-
-// Takes a part of the input, and answers each line that ends in it. What is held of the last line stays for the next part.
-fn take(part: &[u8], line: &mut [u8], out: &mut [u8], before: Progress) -> Progress
-    ensures { Leaves part.now line.old before.length line.new result.length }
-{
-    let mut now = before;
-    let mut from = 0;
-    while from < part.len() {
-        let got = gather(part, from, line, now.length);
-        from = got.next;
-        now = settle(line, out, got, now.at);
-    }
-    now
-}
-
-// Answers a line that ended.
-fn settle(line: &[u8], out: &mut [u8], got: Gathered, at: usize) -> Progress
-    ensures { result.length ≡ pick got.ended 0 got.length }
-{
-    if got.ended {
-        return Progress {
-            length: 0,
-            at: answer(line, got.length, out, at),
-        };
-    }
-    Progress {
-        length: got.length,
-        at,
-    }
-}
-
-// The answer to a line of a length, with its newline.
-fn answer(line: &[u8], length: usize, out: &mut [u8], at: usize) -> usize {
-    if LONGEST < length {
-        return put(out, at, b"?\n");
-    }
-    if line.len() < length {
-        return put(out, at, b"?\n");
-    }
-    let to = answer_query(parse(&line[..length]), out, at);
-    put_byte(out, to, b'\n')
+fn parse(line: &[u8]) -> Option<Query> {
+    let [count, e, first, last] = asked(Fields::new(line))?;
+    Some(Query {
+        count,
+        e: u32::try_from(e).ok()?,
+        first,
+        last,
+    })
 }
 
 // What a line asks: two numbers, or four.
-fn parse(line: &[u8]) -> Query {
-    let mut a = [0, 0, FIRST, LARGEST_N];
-    let row = numbers(line, 0, &mut a);
-    if !are_asked(line, row) {
-        return Query::Unknown;
-    }
-    let e = a[1];
-    if 4294967295 < e {
-        return Query::Unknown;
-    }
-    Query::Of {
-        count: a[0],
-        e: e as u32,
-        first: a[2],
-        last: a[3],
-    }
+fn asked(fields: Fields) -> Option<[u64; 4]> {
+    let Some(two) = fields.just_numbers::<2>() else {
+        return fields.just_numbers();
+    };
+    let [count, e] = two;
+    Some([count, e, FIRST, LARGEST_N])
 }
 
-fn are_asked(line: &[u8], row: Row) -> bool {
-    if were_exactly(line, row, 2) {
-        return true;
-    }
-    were_exactly(line, row, 4)
-}
-
-fn answer_query(q: Query, out: &mut [u8], at: usize) -> usize {
-    match q {
-        Query::Unknown => put_byte(out, at, b'?'),
-        Query::Of {
-            count,
-            e,
-            first,
-            last,
-        } => {
-            let to = put_head(count, e, first, last, out, at);
-            smallest_of(count, e, first, last, out, to)
-        }
-    }
-}
-
-// What every answer begins with: the question again.
-fn put_head(count: u64, e: u32, first: u64, last: u64, out: &mut [u8], at: usize) -> usize {
-    let mut to = put_decimal(out, at, count);
-    to = put_field(out, to, e as u64);
-    to = put_field(out, to, first);
-    put_field(out, to, last)
-}
-
-fn smallest_of(count: u64, e: u32, first: u64, last: u64, out: &mut [u8], at: usize) -> usize {
-    let mut counts = [0u64; 118];
-    match smallest_funnel(count, e, first, last, &mut counts) {
-        SmallestFunnel::Found(n, plan) => put_found(count, n, plan.maximum, out, at),
-        SmallestFunnel::Refused(gate) => put_refusal(refusal::gate_name(gate), out, at),
-        SmallestFunnel::Nothing => put_refusal(Name::None, out, at),
+// Every answer begins with the question again.
+fn answer_query(query: Query, out: &mut Out) {
+    let Query {
+        count,
+        e,
+        first,
+        last,
+    } = query;
+    write!(out, "{count} {e} {first} {last}");
+    match smallest_funnel(count, e, first, last, &mut [0; 118]) {
+        Ok(found) => put_found(count, found.n, found.plan.maximum, out),
+        Err(SmallestRefusal::Refused(gate)) => put_refusal(refusal::gate_name(gate), out),
+        Err(SmallestRefusal::Nothing) => put_refusal(Name::None, out),
     }
 }
 
 // n, the most cells, the slots that stay empty, and the bytes to lend: eight to a word and one to a flag.
-fn put_found(count: u64, n: u64, maximum: u64, out: &mut [u8], at: usize) -> usize
+fn put_found(count: u64, n: u64, maximum: u64, out: &mut Out)
     requires { (count ≤ n) × (n ≤ 4294967296) }
 {
-    let mut to = put_field(out, at, n);
-    to = put_field(out, to, maximum);
-    to = put_field(out, to, n - count);
-    to = put_field(out, to, 8 * n);
-    put_field(out, to, n)
+    write!(out, " {n} {maximum} {}", n - count);
+    write!(out, " {} {n}", 8 * n);
 }
 
-fn put_refusal(name: Name, out: &mut [u8], at: usize) -> usize {
-    let to = put(out, at, b" R");
-    put_field(out, to, refusal::number(name))
+fn put_refusal(name: Name, out: &mut Out) {
+    write!(out, " R {}", refusal::number(name));
 }

@@ -1,143 +1,144 @@
 // Operations of a run: iID, qID or sID, oSLOT=ID, cLEVEL=COUNT, lCOUNT.
-use text::field::{OneWord, field_after, field_end, number};
+ghost use Rattle.std.specs.Iterator.{at_most};
+ghost use Rattle.script.specs.Operations.{operations_left};
 
-// An operation: its letter, and the one or two numbers behind it.
+use probe::mix::mix64;
+use text::field::{Fields, number};
+use words::product::multiply;
+
+// The increment of splitmix64.
+const GOLDEN: u64 = 0x9E3779B97F4A7C15;
+
 #[derive(Clone, Copy)]
-pub struct Operation {
-    pub letter: u8,
-    pub first: u64,
-    pub second: u64,
+pub enum Operation {
+    Insert { identity: u64 },
+    Ask { identity: u64 },
+    Edit(Edit),
 }
 
-// The letter of what is none.
-const NONE: u8 = 0;
-
-// Two numbers with a byte between them, or none.
+// What a state is set to, whatever its counts say.
 #[derive(Clone, Copy)]
-pub enum Split {
-    Into { left: u64, right: u64 },
-    Unknown,
+pub enum Edit {
+    // An identity in a slot.
+    Occupy { slot: u64, identity: u64 },
+    // The count of a level.
+    Level { level: u64, count: u64 },
+    // The table's count.
+    Count(u64),
 }
 
-// Where a byte stands in a field, or its end.
-pub fn find_byte(line: &[u8], from: usize, to: usize, b: u8) -> usize {
-    let mut i = from;
-    while i < to {
-        if line.len() <= i {
-            return to;
-        }
-        if line[i] == b {
-            return i;
-        }
-        i += 1;
+// The tables that a run can be on. A question begins with another letter for each.
+#[derive(Clone, Copy)]
+pub enum Kind {
+    Elastic,
+    Funnel,
+}
+
+// All operations of a run on a table of n slots: those in fields, or, in bulk, many insertions, of which some are done.
+#[derive(Clone, Copy)]
+pub enum Operations<'a> {
+    Listed {
+        fields: Fields<'a>,
+        kind: Kind,
+        n: u64,
+    },
+    Bulk {
+        start: u64,
+        many: u64,
+        done: u64,
+    },
+}
+
+impl<'a> Operations<'a> {
+    pub fn is_bulk(self) -> bool {
+        matches!(self, Operations::Bulk { .. })
     }
-    to
+}
+
+impl<'a> Iterator for Operations<'a> {
+    type Item = Operation;
+
+    ghost remaining = { λ s. at_most (operations_left s) };
+
+    fn next(&mut self) -> Option<Operation> {
+        match *self {
+            Operations::Listed { fields, kind, n } => {
+                let mut left = fields;
+                let field = left.next();
+                *self = Operations::Listed {
+                    fields: left,
+                    kind,
+                    n,
+                };
+                parse(field?, kind, n)
+            }
+            Operations::Bulk { start, many, done } => {
+                if many <= done {
+                    return None;
+                }
+                *self = Operations::Bulk {
+                    start,
+                    many,
+                    done: done + 1,
+                };
+                Some(Operation::Insert {
+                    identity: bulk_identity(start, done + 1),
+                })
+            }
+        }
+    }
+}
+
+// The operation in a field, if it is one on a table of n slots.
+pub fn parse(field: &[u8], kind: Kind, n: u64) -> Option<Operation> {
+    let (letter, rest) = field.split_first()?;
+    match (letter, kind) {
+        (b'i', _) => Some(Operation::Insert {
+            identity: number(rest)?,
+        }),
+        (b'q', Kind::Elastic) | (b's', Kind::Funnel) => Some(Operation::Ask {
+            identity: number(rest)?,
+        }),
+        _ => Some(Operation::Edit(edit_of(*letter, rest, kind, n)?)),
+    }
+}
+
+fn edit_of(letter: u8, rest: &[u8], kind: Kind, n: u64) -> Option<Edit> {
+    match (letter, kind) {
+        (b'o', _) => {
+            let (slot, identity) = split_pair(rest)?;
+            if slot < n {
+                Some(Edit::Occupy { slot, identity })
+            } else {
+                None
+            }
+        }
+        (b'c', Kind::Elastic) => {
+            let (level, count) = split_pair(rest)?;
+            if level < 32 {
+                Some(Edit::Level { level, count })
+            } else {
+                None
+            }
+        }
+        (b'l', _) => Some(Edit::Count(number(rest)?)),
+        _ => None,
+    }
+}
+
+// A field around the first byte of a kind, or none.
+pub fn split_at_byte(field: &[u8], b: u8) -> Option<(&[u8], &[u8])> {
+    let at = field.iter().position(|x| *x == b)?;
+    Some((&field[..at], &field[at + 1..]))
 }
 
 // LEFT=RIGHT
-pub fn split_pair(line: &[u8], from: usize, to: usize) -> Split {
-    let at = find_byte(line, from, to, b'=');
-    if to <= at {
-        return Split::Unknown;
-    }
-    let OneWord::Value(left) = number(line, from, at) else {
-        return Split::Unknown;
-    };
-    let OneWord::Value(right) = number(line, at + 1, to) else {
-        return Split::Unknown;
-    };
-    Split::Into { left, right }
+pub fn split_pair(field: &[u8]) -> Option<(u64, u64)> {
+    let (left, right) = split_at_byte(field, b'=')?;
+    Some((number(left)?, number(right)?))
 }
 
-// The operation in a field.
-pub fn parse(line: &[u8], from: usize, to: usize) -> Operation {
-    if to <= from {
-        return lettered(NONE, 0, 0);
-    }
-    if line.len() <= from {
-        return lettered(NONE, 0, 0);
-    }
-    let letter = line[from];
-    if letter == b'o' || letter == b'c' {
-        return with_pair(letter, split_pair(line, from + 1, to));
-    }
-    with_number(letter, number(line, from + 1, to))
-}
-
-fn lettered(letter: u8, first: u64, second: u64) -> Operation {
-    Operation {
-        letter,
-        first,
-        second,
-    }
-}
-
-fn with_pair(letter: u8, pair: Split) -> Operation {
-    match pair {
-        Split::Unknown => lettered(NONE, 0, 0),
-        Split::Into { left, right } => lettered(letter, left, right),
-    }
-}
-
-fn with_number(letter: u8, value: OneWord) -> Operation {
-    match value {
-        OneWord::Bad => lettered(NONE, 0, 0),
-        OneWord::Value(x) => lettered(letter, x, 0),
-    }
-}
-
-// An insertion.
-pub fn insertion(identity: u64) -> Operation {
-    lettered(b'i', identity, 0)
-}
-
-// Whether every field from one on is an operation of a table of n slots, whose question begins with `question`.
-pub fn are_operations(line: &[u8], from: usize, n: u64, question: u8) -> bool {
-    let mut next = from;
-    // A line has no more fields than bytes, since none is empty.
-    let mut turns = line.len();
-    while 0 < turns {
-        if line.len() < next {
-            return true;
-        }
-        let end = field_end(line, next);
-        if !is_operation(parse(line, next, end), n, question) {
-            return false;
-        }
-        next = field_after(line, end);
-        turns -= 1;
-    }
-    true
-}
-
-fn is_operation(op: Operation, n: u64, question: u8) -> bool {
-    if op.letter == b'o' {
-        return op.first < n;
-    }
-    if op.letter == b'c' {
-        return question == b'q' && op.first < 32;
-    }
-    if op.letter == question {
-        return true;
-    }
-    op.letter == b'i' || op.letter == b'l'
-}
-
-// The table's count after an operation that asks nothing: oSLOT=ID puts an identity into a slot, whatever the counts say,
-// and lCOUNT sets the count.
-pub fn edit(op: Operation, count: u64, words: &mut [u64], flags: &mut [u8]) -> u64 {
-    if op.letter == b'l' {
-        return op.first;
-    }
-    if op.letter == b'o' {
-        occupy(op.first as usize, op.second, words, flags);
-    }
-    count
-}
-
-fn occupy(slot: usize, identity: u64, words: &mut [u64], flags: &mut [u8]) {
-    if slot < words.len() && slot < flags.len() {
-        words[slot] = identity;
-        flags[slot] = 1;
-    }
+// The k-th identity of a bulk run.
+fn bulk_identity(start: u64, k: u64) -> u64 {
+    mix64(start.wrapping_add(multiply(k, GOLDEN)))
 }

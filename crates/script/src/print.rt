@@ -1,258 +1,133 @@
-// Answers as lines.
+// Answers as text.
 use refusal::{Gate, Name, RangeRefusal};
-use text::out::{put, put_byte, put_field, put_wide};
+use std::fmt;
+use std::fmt::Display;
+use text::out::Out;
 use words::place::Place;
 use words::product::Wide;
 
-// What is printed: a letter, or a number of two words; then the first fields of a row, with another letter before one of
-// them. It is plain numbers alone, because a proof spells out the type of each local at each step, and a small type
-// makes it short.
+// What a command or an operation is answered that is not carried out.
 #[derive(Clone, Copy)]
-pub struct Said {
-    pub letter: u8,
-    pub hi: u64,
-    pub lo: u64,
-    pub count: u64,
-    pub row: [u64; 10],
-    pub turn: u64,
-    pub second: u8,
+pub enum Refusal {
+    // It is no command.
+    Unknown,
+    // It is larger than the program holds.
+    Large,
+    Named(Name),
+    // With a number.
+    Valued(Name, u64),
+    // COORD, with the letter of the coordinate.
+    Coord(char),
+    Duplicate { probes: u64, place: Place },
+    Disorder { placed: u64, slot: u64 },
 }
 
-// In a letter's place: there is none, the number stands there; nothing is printed at all; it is the word OK.
-const NUMBER: u8 = 0;
-
-const SILENT: u8 = 1;
-
-pub const OK: u8 = 2;
-
-// No field has this place, so no second letter.
-const NOWHERE: u64 = 11;
-
-// A place of a funnel table as a letter and numbers, of which it has `count`.
-#[derive(Clone, Copy)]
-struct Spelt {
-    letter: u8,
-    count: u64,
-    a: u64,
-    b: u64,
-    c: u64,
-    d: u64,
-}
-
-// A letter and the first fields of a row.
-pub fn letter_and(letter: u8, count: u64, row: [u64; 10]) -> Said {
-    Said {
-        letter,
-        hi: 0,
-        lo: 0,
-        count,
-        row,
-        turn: NOWHERE,
-        second: 0,
-    }
-}
-
-pub fn say_letter(letter: u8) -> Said {
-    letter_and(letter, 0, [0; 10])
-}
-
-pub fn say_nothing() -> Said {
-    say_letter(SILENT)
-}
-
-// What is no command.
-pub fn say_unknown() -> Said {
-    say_letter(b'?')
-}
-
-pub fn is_silent(said: Said) -> bool {
-    said.letter == SILENT
-}
-
-// A number of two words.
-pub fn say_wide(hi: u64, lo: u64) -> Said {
-    say_two(hi, lo, 0, 0)
-}
-
-pub fn say_number(x: u64) -> Said {
-    say_wide(0, x)
-}
-
-// A number of two words, and `count` fields, at most one.
-pub fn say_two(hi: u64, lo: u64, count: u64, second: u64) -> Said {
-    Said {
-        letter: NUMBER,
-        hi,
-        lo,
-        count,
-        row: [second, 0, 0, 0, 0, 0, 0, 0, 0, 0],
-        turn: NOWHERE,
-        second: 0,
-    }
-}
-
-pub fn say_refused(name: Name) -> Said {
-    letter_and(b'R', 1, [refusal::number(name), 0, 0, 0, 0, 0, 0, 0, 0, 0])
-}
-
-pub fn say_refused_with(name: Name, value: u64) -> Said {
-    letter_and(
-        b'R',
-        2,
-        [refusal::number(name), value, 0, 0, 0, 0, 0, 0, 0, 0],
-    )
-}
-
-// The first `count` of three fields behind OK, or behind a letter.
-pub fn say_fields(letter: u8, count: u64, a: u64, b: u64, c: u64) -> Said {
-    letter_and(letter, count, [a, b, c, 0, 0, 0, 0, 0, 0, 0])
-}
-
-// COORD, with the letter of the coordinate.
-pub fn say_coord(letter: u8) -> Said {
-    Said {
-        letter: b'R',
-        hi: 0,
-        lo: 0,
-        count: 1,
-        row: [refusal::number(Name::Coord), 0, 0, 0, 0, 0, 0, 0, 0, 0],
-        turn: 1,
-        second: letter,
-    }
-}
-
-pub fn say_gate(refused_gate: Gate) -> Said {
-    say_refused(refusal::gate_name(refused_gate))
-}
-
-pub fn say_range(range: RangeRefusal) -> Said {
-    say_refused_with(Name::Range, range.words)
-}
-
-// A letter, a probe count and a place.
-pub fn say_placed(letter: u8, probes: u64, place: Place) -> Said {
-    let spelt = spelt_place(place);
-    Said {
-        letter,
-        hi: 0,
-        lo: 0,
-        count: std::num::wrapping_add_u64(spelt.count, 1),
-        row: [probes, spelt.a, spelt.b, spelt.c, spelt.d, 0, 0, 0, 0, 0],
-        turn: 1,
-        second: spelt.letter,
-    }
-}
-
-// DUPLICATE, with a probe count and a place.
-pub fn say_duplicate(probes: u64, place: Place) -> Said {
-    let spelt = spelt_place(place);
-    let number = refusal::number(Name::Duplicate);
-    Said {
-        letter: b'R',
-        hi: 0,
-        lo: 0,
-        count: std::num::wrapping_add_u64(spelt.count, 2),
-        row: [
-            number, probes, spelt.a, spelt.b, spelt.c, spelt.d, 0, 0, 0, 0,
-        ],
-        turn: 2,
-        second: spelt.letter,
-    }
-}
-
-fn spelt_place(place: Place) -> Spelt {
-    match place {
-        Place::Ordinary {
-            level,
-            bucket,
-            slot_in_bucket,
-            global_slot,
-        } => Spelt {
-            letter: b'O',
-            count: 4,
-            a: level,
-            b: bucket,
-            c: slot_in_bucket,
-            d: global_slot.0,
-        },
-        Place::SpecialPrimary { slot, global_slot } => Spelt {
-            letter: b'P',
-            count: 2,
-            a: slot,
-            b: global_slot.0,
-            c: 0,
-            d: 0,
-        },
-        Place::SpecialFallback {
-            bucket,
-            slot_in_bucket,
-            global_slot,
-        } => Spelt {
-            letter: b'B',
-            count: 3,
-            a: bucket,
-            b: slot_in_bucket,
-            c: global_slot.0,
-            d: 0,
-        },
-    }
-}
-
-// What an operation of a run is answered, with what stands behind each such answer.
-pub fn put_answer(said: Said, out: &mut [u8], at: usize) -> usize {
-    if said.letter == SILENT {
-        return at;
-    }
-    let to = put_said(said, out, at);
-    put(out, to, b"; ")
-}
-
-pub fn put_said(said: Said, out: &mut [u8], at: usize) -> usize {
-    let row = said.row;
-    let to = put_start(said.letter, said.hi, said.lo, out, at);
-    put_fields(&row, said.count, said.turn, said.second, out, to)
-}
-
-fn put_start(letter: u8, hi: u64, lo: u64, out: &mut [u8], at: usize) -> usize {
-    if letter == NUMBER {
-        return put_wide(out, at, Wide { hi, lo });
-    }
-    if letter == OK {
-        return put(out, at, b"OK");
-    }
-    put_byte(out, at, letter)
-}
-
-fn put_fields(
-    row: &[u64; 10],
-    count: u64,
-    turn: u64,
-    second: u8,
-    out: &mut [u8],
-    at: usize,
-) -> usize {
-    put_turned(row, count, turn, second, out, at)
-}
-
-// The first fields of a row, with a letter before one of them or behind the last.
-fn put_turned(row: &[u64], count: u64, turn: u64, second: u8, out: &mut [u8], at: usize) -> usize {
-    let mut to = at;
-    let mut i = 0;
-    while i < row.len() {
-        to = put_turn(i as u64, turn, second, out, to);
-        if count <= i as u64 {
-            return to;
+impl Refusal {
+    // The row of the table of refusals, which those of the program do not have.
+    pub fn name(self) -> Option<Name> {
+        match self {
+            Refusal::Unknown | Refusal::Large => None,
+            Refusal::Named(name) | Refusal::Valued(name, _) => Some(name),
+            Refusal::Coord(_) => Some(Name::Coord),
+            Refusal::Duplicate { .. } => Some(Name::Duplicate),
+            Refusal::Disorder { .. } => Some(Name::Disorder),
         }
-        to = put_field(out, to, row[i]);
-        i += 1;
     }
-    to
 }
 
-fn put_turn(i: u64, turn: u64, second: u8, out: &mut [u8], at: usize) -> usize {
-    if i != turn {
-        return at;
+impl From<Gate> for Refusal {
+    fn from(gate: Gate) -> Refusal {
+        Refusal::Named(refusal::gate_name(gate))
     }
-    let to = put_byte(out, at, b' ');
-    put_byte(out, to, second)
+}
+
+impl From<RangeRefusal> for Refusal {
+    fn from(range: RangeRefusal) -> Refusal {
+        Refusal::Valued(Name::Range, range.words)
+    }
+}
+
+impl Display for Refusal {
+    fn fmt<W: fmt::Write>(&self, f: &mut fmt::Formatter<W>) -> fmt::Result {
+        match self.name() {
+            Some(name) => write!(f, "R {}", refusal::number(name))?,
+            None => {}
+        }
+        match self {
+            Refusal::Unknown => write!(f, "?"),
+            Refusal::Large => write!(f, "L"),
+            Refusal::Named(_) => Ok(()),
+            Refusal::Valued(_, value) => write!(f, " {value}"),
+            Refusal::Coord(letter) => write!(f, " {letter}"),
+            Refusal::Duplicate { probes, place } => write!(f, " {probes} {}", Spelt(*place)),
+            Refusal::Disorder { placed, slot } => write!(f, " {placed} {slot}"),
+        }
+    }
+}
+
+// A place of a funnel table as a letter and numbers.
+#[derive(Clone, Copy)]
+pub struct Spelt(pub Place);
+
+impl Display for Spelt {
+    fn fmt<W: fmt::Write>(&self, f: &mut fmt::Formatter<W>) -> fmt::Result {
+        match self.0 {
+            Place::Ordinary {
+                level,
+                bucket,
+                slot_in_bucket,
+                global_slot,
+            } => write!(f, "O {level} {bucket} {slot_in_bucket} {}", global_slot.0),
+            Place::SpecialPrimary { slot, global_slot } => write!(f, "P {slot} {}", global_slot.0),
+            Place::SpecialFallback {
+                bucket,
+                slot_in_bucket,
+                global_slot,
+            } => write!(f, "B {bucket} {slot_in_bucket} {}", global_slot.0),
+        }
+    }
+}
+
+// A number of two words, and one behind it where there is one.
+#[derive(Clone, Copy)]
+pub struct Numbers {
+    pub first: Wide,
+    pub second: Option<u64>,
+}
+
+impl From<u64> for Numbers {
+    fn from(x: u64) -> Numbers {
+        Numbers {
+            first: Wide { hi: 0, lo: x },
+            second: None,
+        }
+    }
+}
+
+impl From<Wide> for Numbers {
+    fn from(x: Wide) -> Numbers {
+        Numbers {
+            first: x,
+            second: None,
+        }
+    }
+}
+
+impl Display for Numbers {
+    fn fmt<W: fmt::Write>(&self, f: &mut fmt::Formatter<W>) -> fmt::Result {
+        let Wide { hi, lo } = self.first;
+        write!(f, "{}", u128::from(hi) << 64 | u128::from(lo))?;
+        match self.second {
+            Some(x) => write!(f, " {x}"),
+            None => Ok(()),
+        }
+    }
+}
+
+// An answer, or the refusal in its place.
+pub fn put_answer<A: Display + Drop>(answer: Result<A, Refusal>, out: &mut Out) {
+    match answer {
+        Ok(done) => write!(out, "{done}"),
+        Err(refused) => write!(out, "{refused}"),
+    }
 }

@@ -1,84 +1,123 @@
 // A table opened in buffers of its length, and the run on it.
-use crate::runs::run;
-use crate::setting::{Setting, asked_by};
-use elastic::state::{Opened, open};
-use script::print::{is_silent, put_said, say_gate};
-use script::request::Request;
+use crate::answers::{Done, insert_refusal, query_refusal};
+use crate::setting::{Asked, asked_by};
+use elastic::state::{State, open};
+use elastic_insert::insert::insert;
+use elastic_query::query::query;
+use script::digest::Digest;
+use script::operation::Edit;
+use script::print::Refusal;
+use script::request::Form;
+use script::run::{Sums, Table, carry_out, occupy, put_end};
 use text::buffers::word_buffer;
+use text::field::Fields;
+use text::out::Out;
 
-// ERUN n e seed c wordcap searchcap poscap OPS, EBULK n e seed c wordcap searchcap poscap start count
-pub fn command(bulk: bool, line: &[u8], args: usize, out: &mut [u8], at: usize) -> usize {
-    let asked = asked_by(bulk, line, args);
-    let said = asked.said;
-    if is_silent(said) {
-        return held(asked.setting, asked.request, line, out, at);
-    }
-    put_said(said, out, at)
+// An open table.
+#[derive(Drop)]
+struct Held<'a> {
+    st: State,
+    counts: [u64; 32],
+    words: &'a mut [u64],
+    flags: &'a mut [u8],
 }
 
-fn held(setting: Setting, request: Request, line: &[u8], out: &mut [u8], at: usize) -> usize {
-    let mut words = word_buffer();
-    let mut flags = io::large_buffer();
-    cut(setting, request, line, &mut words, &mut flags, out, at)
+impl<'a> Table for Held<'a> {
+    type Done = Done;
+
+    fn insert(&mut self, identity: u64) -> Result<Done, Refusal> {
+        let done = insert(self.st, &mut self.counts, self.words, self.flags, identity);
+        self.st.count = done.st.count;
+        done.answer.map(Done::Inserted).map_err(insert_refusal)
+    }
+
+    fn ask(&mut self, identity: u64) -> Result<Done, Refusal> {
+        query(self.st, &self.counts, self.words, self.flags, identity)
+            .map(Done::Found)
+            .map_err(query_refusal)
+    }
+
+    fn edit(&mut self, edit: Edit) {
+        match edit {
+            Edit::Occupy { slot, identity } => occupy(slot, identity, self.words, self.flags),
+            Edit::Level { level, count } => {
+                if level < 32 {
+                    self.counts[level as usize] = count;
+                }
+            }
+            Edit::Count(count) => self.st.count = count,
+        }
+    }
+
+    // The sums are those of the inserted alone.
+    fn probes(answer: Result<Done, Refusal>) -> u64 {
+        match answer {
+            Ok(Done::Inserted(insertion)) => insertion.paper_probe.0,
+            _ => 0,
+        }
+    }
+
+    fn position(answer: Result<Done, Refusal>) -> u64 {
+        match answer {
+            Ok(Done::Inserted(insertion)) => insertion.phi,
+            _ => 0,
+        }
+    }
+}
+
+// ERUN n e seed c wordcap searchcap poscap OPS, EBULK n e seed c wordcap searchcap poscap start count
+pub fn command(form: Form, fields: Fields, out: &mut Out) {
+    match asked_by(form, fields) {
+        Ok(asked) => held(asked, out),
+        Err(refused) => write!(out, "{refused}"),
+    }
 }
 
 // The run in the first n slots of large buffers.
-fn cut(
-    setting: Setting,
-    request: Request,
-    line: &[u8],
-    words: &mut [u64],
-    flags: &mut [u8],
-    out: &mut [u8],
-    at: usize,
-) -> usize {
-    let n = setting.n as usize;
-    if words.len() < n {
-        return at;
-    }
-    if flags.len() < n {
-        return at;
-    }
-    opened(
-        setting,
-        request,
-        line,
-        &mut words[..n],
-        &mut flags[..n],
-        out,
-        at,
-    )
-}
-
-fn opened(
-    setting: Setting,
-    request: Request,
-    line: &[u8],
-    words: &mut [u64],
-    flags: &mut [u8],
-    out: &mut [u8],
-    at: usize,
-) -> usize {
-    let mut counts = [0u64; 32];
-    match open_in(setting, &mut counts, words, flags) {
-        Opened::Refused(gate) => put_said(say_gate(gate), out, at),
-        Opened::Open(st) => run(request, line, st, &mut counts, words, flags, out, at),
+fn held(asked: Asked, out: &mut Out) {
+    let mut words = word_buffer();
+    let mut flags = io::large_buffer();
+    let n = asked.setting.n as usize;
+    if n <= words.len() && n <= flags.len() {
+        opened(asked, &mut words[..n], &mut flags[..n], out);
     }
 }
 
-fn open_in(
-    setting: Setting,
-    counts: &mut [u64; 32],
-    words: &mut [u64],
-    flags: &mut [u8],
-) -> Opened {
-    open(
-        setting.n,
-        setting.e,
-        setting.seed,
-        setting.limits,
-        counts,
-        words,
-        flags,
-    )
+fn opened(asked: Asked, words: &mut [u64], flags: &mut [u8], out: &mut Out) {
+    let setting = asked.setting;
+    let mut counts = [0; 32];
+    match open(setting.n, setting.e, setting.seed, setting.limits, &mut counts, words, flags) {
+        Ok(st) => run(
+            asked,
+            Held {
+                st,
+                counts,
+                words,
+                flags,
+            },
+            out,
+        ),
+        Err(gate) => write!(out, "{}", Refusal::from(gate)),
+    }
+}
+
+fn run(asked: Asked, mut table: Held, out: &mut Out) {
+    let sums = carry_out(asked.operations, &mut table, out);
+    put_sums(asked.operations.is_bulk(), table.st.count, &sums, out);
+    put_table(table.st.plan.levels, &table.counts, table.words, table.flags, out);
+}
+
+// What an end begins with, and in bulk the sum of the positions.
+fn put_sums(is_bulk: bool, count: u64, sums: &Sums, out: &mut Out) {
+    put_end(is_bulk, count, sums, out);
+    if is_bulk {
+        write!(out, " {}", sums.positions);
+    }
+}
+
+// The counts of the levels, joined by commas, and the digest.
+fn put_table(levels: u64, counts: &[u64], words: &[u64], flags: &[u8], out: &mut Out) {
+    out.byte(b' ');
+    out.joined(levels, counts);
+    write!(out, " {}", Digest { words, flags });
 }

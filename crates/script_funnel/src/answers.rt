@@ -1,96 +1,50 @@
 // What an insertion or a search is answered.
-use funnel::table::{FunnelTable, InsertAnswer, Insertion, Search, SearchAnswer, with_count};
-use funnel_calls::calls::{insert, search};
+use funnel::table::{InsertRefusal, Reached, Search};
 use refusal::Name;
-use script::print::{Said, say_duplicate, say_gate, say_placed, say_range, say_refused_with};
-use script::standing::Applied;
+use script::print::{Refusal, Spelt};
+use std::fmt;
+use std::fmt::Display;
+use words::place::Place;
 
-// An insertion into a table with this count.
-pub fn inserted(
-    identity: u64,
-    count: u64,
-    table: FunnelTable,
-    counts: &[u64; 118],
-    words: &mut [u64],
-    flags: &mut [u8],
-) -> Applied {
-    of_insert(
-        count,
-        insert(with_count(table, count), counts, words, flags, identity),
-    )
+// Where an identity went in, where a search hit it, and where it met a vacancy.
+#[derive(Clone, Copy)]
+pub enum Done {
+    Inserted { probes: u64, place: Place },
+    Hit { probes: u64, place: Place },
+    Vacant { probes: u64, place: Place },
 }
 
-fn of_insert(count: u64, answer: InsertAnswer) -> Applied {
-    match answer {
-        InsertAnswer::Gate(gate) => applied(count, say_gate(gate)),
-        InsertAnswer::Done(step) => {
-            let next = step.table;
-            let insertion = step.answer;
-            applied(next.count, of_insertion(insertion))
+impl Display for Done {
+    fn fmt<W: fmt::Write>(&self, f: &mut fmt::Formatter<W>) -> fmt::Result {
+        match self {
+            Done::Inserted { probes, place } => write!(f, "I {probes} {}", Spelt(*place)),
+            Done::Hit { probes, place } => write!(f, "H {probes} {}", Spelt(*place)),
+            Done::Vacant { probes, place } => write!(f, "V {probes} {}", Spelt(*place)),
         }
     }
 }
 
-fn applied(count: u64, said: Said) -> Applied {
-    Applied {
-        count,
-        said,
-        probes: probes_of(said),
-        positions: 0,
+pub fn inserted(reached: Reached) -> Done {
+    Done::Inserted {
+        probes: reached.probes,
+        place: reached.place,
     }
 }
 
-// The probes of an insertion, refused or not. A reduction's words are none.
-fn probes_of(said: Said) -> u64 {
-    let row = said.row;
-    if said.letter == b'I' {
-        return row[0];
-    }
-    if row[0] == refusal::number(Name::Range) {
-        return 0;
-    }
-    row[1]
-}
-
-fn of_insertion(answer: Insertion) -> Said {
-    match answer {
-        Insertion::Inserted { probes, place } => say_placed(b'I', probes, place),
-        Insertion::Duplicate { probes, place } => say_duplicate(probes, place),
-        Insertion::Range(range) => say_range(range),
-        Insertion::Exhausted { probes } => say_refused_with(Name::Exhausted, probes),
-        Insertion::Full { probes } => say_refused_with(Name::Full, probes),
+pub fn insert_refusal(refused: InsertRefusal) -> Refusal {
+    match refused {
+        InsertRefusal::Duplicate { probes, place } => Refusal::Duplicate { probes, place },
+        InsertRefusal::Range(range) => Refusal::from(range),
+        InsertRefusal::Exhausted { probes } => Refusal::Valued(Name::Exhausted, probes),
+        InsertRefusal::Full { probes } => Refusal::Valued(Name::Full, probes),
     }
 }
 
-// A search of a table with this count.
-pub fn asked_for(
-    identity: u64,
-    count: u64,
-    table: FunnelTable,
-    counts: &[u64; 118],
-    words: &[u64],
-    flags: &[u8],
-) -> Applied {
-    Applied {
-        count,
-        said: of_search(search(with_count(table, count), counts, words, flags, identity)),
-        probes: 0,
-        positions: 0,
-    }
-}
-
-fn of_search(answer: SearchAnswer) -> Said {
-    match answer {
-        SearchAnswer::Gate(gate) => say_gate(gate),
-        SearchAnswer::Found(found) => of_found(found),
-    }
-}
-
-fn of_found(found: Search) -> Said {
+pub fn searched(found: Search) -> Result<Done, Refusal> {
     match found {
-        Search::Hit { probes, place } => say_placed(b'H', probes, place),
-        Search::Vacant { probes, place } => say_placed(b'V', probes, place),
-        Search::Full { probes } => say_refused_with(Name::Full, probes),
-        Search::Range(range) => say_range(range),
+        Search::Hit { probes, place } => Ok(Done::Hit { probes, place }),
+        Search::Vacant { probes, place } => Ok(Done::Vacant { probes, place }),
+        Search::Full { probes } => Err(Refusal::Valued(Name::Full, probes)),
+        Search::Range(range) => Err(Refusal::from(range)),
     }
 }

@@ -1,70 +1,67 @@
-// All operations of a run, one after the other, and the end of its answer.
-use crate::answers::{asked_for, inserted};
+// A run on a fresh table, and the end of its answer.
+use crate::answers::{Done, insert_refusal, inserted, searched};
 use funnel::table::FunnelTable;
-use script::digest::put_digest;
-use script::operation::{Operation, edit};
-use script::request::{Request, field_behind, operation_at, turns_of};
-use script::standing::{Applied, Standing, noted, put_end, quiet, standing_at};
+use funnel_calls::calls::{insert, search};
+use refusal::Name;
+use script::digest::Digest;
+use script::operation::{Edit, Operations};
+use script::print::Refusal;
+use script::run::{Table, carry_out, occupy, put_end};
+use text::out::Out;
 
-// A run on a fresh table.
-pub fn run(
-    request: Request,
-    line: &[u8],
-    table: FunnelTable,
-    counts: &[u64; 118],
-    words: &mut [u64],
-    flags: &mut [u8],
-    out: &mut [u8],
-    at: usize,
-) -> usize {
-    let mut times = [0u64; 32];
-    let end = operations(
-        request, line, table, counts, words, flags, &mut times, out, at,
-    );
-    let to = put_end(request.bulk, end, &times, out);
-    put_digest(words, flags, out, to)
+// An open table.
+#[derive(Drop)]
+pub struct Held<'a> {
+    pub table: FunnelTable,
+    pub counts: &'a [u64; 118],
+    pub words: &'a mut [u64],
+    pub flags: &'a mut [u8],
 }
 
-fn operations(
-    request: Request,
-    line: &[u8],
-    table: FunnelTable,
-    counts: &[u64; 118],
-    words: &mut [u64],
-    flags: &mut [u8],
-    times: &mut [u64; 32],
-    out: &mut [u8],
-    at: usize,
-) -> Standing {
-    let mut now = standing_at(at);
-    let mut next = request.from;
-    let mut turns = turns_of(request, line);
-    while 0 < turns {
-        if line.len() < next {
-            return now;
+impl<'a> Table for Held<'a> {
+    type Done = Done;
+
+    fn insert(&mut self, identity: u64) -> Result<Done, Refusal> {
+        let step = insert(self.table, self.counts, self.words, self.flags, identity)?;
+        self.table.count = step.table.count;
+        step.answer.map(inserted).map_err(insert_refusal)
+    }
+
+    fn ask(&mut self, identity: u64) -> Result<Done, Refusal> {
+        searched(search(self.table, self.counts, self.words, self.flags, identity)?)
+    }
+
+    // No level of a funnel table has a count.
+    fn edit(&mut self, edit: Edit) {
+        match edit {
+            Edit::Occupy { slot, identity } => occupy(slot, identity, self.words, self.flags),
+            Edit::Level { .. } => {}
+            Edit::Count(count) => self.table.count = count,
         }
-        let op = operation_at(request, line, next, turns);
-        let done = carried_out(op, now.count, table, counts, words, flags);
-        now = noted(request.bulk, done, now, times, out);
-        next = field_behind(request, line, next);
-        turns -= 1;
     }
-    now
+
+    // The probes of an insertion, refused or not. A reduction's words are none.
+    fn probes(answer: Result<Done, Refusal>) -> u64 {
+        match answer {
+            Ok(Done::Inserted { probes, .. }) => probes,
+            Err(Refusal::Duplicate { probes, .. }) => probes,
+            Err(Refusal::Valued(Name::Exhausted | Name::Full, probes)) => probes,
+            _ => 0,
+        }
+    }
+
+    fn position(_answer: Result<Done, Refusal>) -> u64 {
+        0
+    }
 }
 
-fn carried_out(
-    op: Operation,
-    count: u64,
-    table: FunnelTable,
-    counts: &[u64; 118],
-    words: &mut [u64],
-    flags: &mut [u8],
-) -> Applied {
-    if op.letter == b'i' {
-        return inserted(op.first, count, table, counts, words, flags);
-    }
-    if op.letter == b's' {
-        return asked_for(op.first, count, table, counts, words, flags);
-    }
-    quiet(edit(op, count, words, flags))
+pub fn run(operations: Operations, table: &mut Held, out: &mut Out) {
+    let sums = carry_out(operations, table, out);
+    put_end(operations.is_bulk(), table.table.count, &sums, out);
+    put_digest(table.words, table.flags, out);
+}
+
+// A space and the digest of a table.
+pub fn put_digest(words: &[u64], flags: &[u8], out: &mut Out) {
+    write!(out, " {}", Digest { words, flags });
 }

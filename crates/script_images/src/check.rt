@@ -1,145 +1,75 @@
 // CHECK n e seed cap COUNT ENTRIES: the check of a table that holds the entries. COUNT is the state's count; on entry
 // marks hold 9 and order all ones.
-use audit_calls::check::{Checked, check};
-use funnel::table::{FunnelTable, with_count};
+use audit_calls::check::{CheckRefusal, check};
 use refusal::Name;
-use script::print::{OK, Said, put_said, say_fields, say_gate, say_refused_with};
-use script_tasks::buffers::{
-    all_bytes, all_words_from, are_marks, fill_bytes, fill_words, put_kept,
-};
+use script::print::Refusal;
+use script_funnel::runs::Held;
 use text::buffers::word_buffer;
-use text::out::{put_byte, put_joined};
+use text::out::Out;
 
 // What a mark, and an entry of the order, hold on entry.
 const MARK: u8 = 9;
 
-const ONES: u64 = 18446744073709551615;
+const ONES: u64 = u64::MAX;
 
-// The first fields of the answer; of a check that came to an end, how many were placed.
-#[derive(Clone, Copy)]
-struct Outcome {
-    said: Said,
-    ended: bool,
-    placed: u64,
-}
-
-// The call on a table with this count, and its answer.
-pub fn run(
-    count: u64,
-    table: FunnelTable,
-    counts: &[u64; 118],
-    words: &[u64],
-    flags: &[u8],
-    out: &mut [u8],
-    at: usize,
-) -> usize {
+// The call on a table, and its answer.
+pub fn run(table: &Held, out: &mut Out) {
     let mut marks = io::large_buffer();
     let mut order = word_buffer();
-    cut(
-        with_count(table, count),
-        counts,
-        words,
-        flags,
-        &mut marks,
-        &mut order,
-        out,
-        at,
-    )
-}
-
-// The call with the first n entries of large buffers.
-fn cut(
-    table: FunnelTable,
-    counts: &[u64; 118],
-    words: &[u64],
-    flags: &[u8],
-    marks: &mut [u8],
-    order: &mut [u64],
-    out: &mut [u8],
-    at: usize,
-) -> usize {
-    let n = words.len();
-    if marks.len() < n {
-        return at;
+    let n = table.words.len();
+    // The call has the first n entries of large buffers.
+    if n <= marks.len() && n <= order.len() {
+        audited(table, &mut marks[..n], &mut order[..n], out);
     }
-    if order.len() < n {
-        return at;
-    }
-    audited(
-        table,
-        counts,
-        words,
-        flags,
-        &mut marks[..n],
-        &mut order[..n],
-        out,
-        at,
-    )
 }
 
-fn audited(
-    table: FunnelTable,
-    counts: &[u64; 118],
-    words: &[u64],
-    flags: &[u8],
-    marks: &mut [u8],
-    order: &mut [u64],
-    out: &mut [u8],
-    at: usize,
-) -> usize {
-    fill_bytes(marks, MARK);
-    fill_words(order, ONES);
-    let outcome = outcome_of(check(table, counts, words, flags, marks, order));
-    put_outcome(outcome, marks, order, out, at)
-}
-
-fn outcome_of(answer: Checked) -> Outcome {
+fn audited(table: &Held, marks: &mut [u8], order: &mut [u64], out: &mut Out) {
+    marks.fill(MARK);
+    order.fill(ONES);
+    let answer = check(table.table, table.counts, table.words, table.flags, marks, order);
     match answer {
-        Checked::Gate(gate) => not_begun(say_gate(gate)),
-        Checked::Dirty { slot } => not_begun(say_refused_with(Name::Dirty, slot)),
-        Checked::Disorder { placed, slot } => Outcome {
-            said: say_fields(b'R', 3, refusal::number(Name::Disorder), placed, slot),
-            ended: true,
-            placed,
-        },
-        Checked::Accepted { placed } => Outcome {
-            said: say_fields(OK, 1, placed, 0, 0),
-            ended: true,
-            placed,
-        },
+        Ok(placed) => write!(out, "OK {placed}"),
+        Err(refused) => write!(out, "{}", refusal_of(refused)),
+    }
+    match answer {
+        Ok(placed) | Err(CheckRefusal::Disorder { placed, .. }) => {
+            put_order(placed, order, out);
+            put_kept(is_left(placed, marks, order), out);
+        }
+        Err(_) => put_kept(is_kept(marks, order), out),
     }
 }
 
-fn not_begun(said: Said) -> Outcome {
-    Outcome {
-        said,
-        ended: false,
-        placed: 0,
+fn refusal_of(refused: CheckRefusal) -> Refusal {
+    match refused {
+        CheckRefusal::Disorder { placed, slot } => Refusal::Disorder { placed, slot },
+        CheckRefusal::Dirty { slot } => Refusal::Valued(Name::Dirty, slot),
+        CheckRefusal::Gate(gate) => Refusal::from(gate),
     }
-}
-
-fn put_outcome(outcome: Outcome, marks: &[u8], order: &[u64], out: &mut [u8], at: usize) -> usize {
-    let mut to = put_said(outcome.said, out, at);
-    to = put_order(outcome, order, out, to);
-    put_kept(is_kept(outcome, marks, order), out, to)
 }
 
 // The order at an end, behind a space, or `-` for none.
-fn put_order(outcome: Outcome, order: &[u64], out: &mut [u8], at: usize) -> usize {
-    if !outcome.ended {
-        return at;
+fn put_order(placed: u64, order: &[u64], out: &mut Out) {
+    out.byte(b' ');
+    if placed == 0 {
+        out.byte(b'-');
     }
-    let to = put_byte(out, at, b' ');
-    if outcome.placed == 0 {
-        return put_byte(out, to, b'-');
-    }
-    put_joined(out, to, outcome.placed, order)
+    out.joined(placed, order);
 }
 
-// Whether marks and order are as on entry, or, at an end, marks are and the order's tail is as it must be left.
-fn is_kept(outcome: Outcome, marks: &[u8], order: &[u64]) -> bool {
-    if outcome.ended {
-        return are_marks(marks) && all_words_from(order, outcome.placed, ONES);
+// Whether, at an end, marks and the order's tail are as they must be left.
+fn is_left(placed: u64, marks: &[u8], order: &[u64]) -> bool {
+    marks.iter().all(|mark| *mark <= 1) && order.iter().skip(placed as usize).all(|x| *x == ONES)
+}
+
+// Whether marks and order are as on entry.
+fn is_kept(marks: &[u8], order: &[u64]) -> bool {
+    marks.iter().all(|mark| *mark == MARK) && order.iter().all(|x| *x == ONES)
+}
+
+// What stands behind an answer where a buffer is not as it must be.
+pub fn put_kept(is_kept: bool, out: &mut Out) {
+    if !is_kept {
+        out.put(b" CHANGED");
     }
-    all_bytes(marks, MARK) && all_words_from(order, 0, ONES)
 }

@@ -1,73 +1,52 @@
 // LOAD n e seed cap HEX: an image into a table whose every word is slot + 1, every flag 1, and whose count is 0.
-use funnel::table::FunnelTable;
-use image_calls::calls::{Loaded, load_image};
+use crate::check::put_kept;
+use image_calls::calls::{LoadRefusal, Loaded, load_image};
 use refusal::Name;
-use script::digest::put_digest;
-use script::print::{OK, Said, put_said, say_fields, say_gate, say_refused, say_refused_with};
-use script_tasks::buffers::{all_bytes, count_up, do_count_up, fill_bytes, put_kept};
+use script::print::Refusal;
+use script_funnel::runs::{Held, put_digest};
 use script_tasks::bytes::spell;
-use script_tasks::request::Task;
 use text::buffers::image_buffer;
+use text::out::Out;
 
 // The call on a fresh table, and its answer.
-pub fn run(
-    task: Task,
-    line: &[u8],
-    table: FunnelTable,
-    counts: &[u64; 118],
-    words: &mut [u64],
-    flags: &mut [u8],
-    out: &mut [u8],
-    at: usize,
-) -> usize {
-    count_up(words);
-    fill_bytes(flags, 1);
-    let said = loaded(task, line, table, counts, words, flags);
-    put_loaded(said, words, flags, out, at)
+pub fn run(image: &[u8], table: &mut Held, out: &mut Out) {
+    for (slot, word) in table.words.iter_mut().enumerate() {
+        *word = before(slot);
+    }
+    table.flags.fill(1);
+    match loaded(image, table) {
+        Ok(loaded) => {
+            write!(out, "OK {} {} {}", loaded.label_at, loaded.label_len, loaded.table.count);
+            put_digest(table.words, table.flags, out);
+        }
+        Err(refused) => {
+            write!(out, "{}", refusal_of(refused));
+            put_kept(is_kept(table.words, table.flags), out);
+        }
+    }
 }
 
-fn loaded(
-    task: Task,
-    line: &[u8],
-    table: FunnelTable,
-    counts: &[u64; 118],
-    words: &mut [u64],
-    flags: &mut [u8],
-) -> Said {
+// The word of a slot before the call.
+fn before(slot: usize) -> u64 {
+    (slot as u64).wrapping_add(1)
+}
+
+fn loaded(field: &[u8], table: &mut Held) -> Result<Loaded, LoadRefusal> {
     let mut image = image_buffer();
-    loaded_from(task, line, table, counts, words, flags, &mut image)
+    let k = spell(field, &mut image);
+    load_image(table.table, table.counts, table.words, table.flags, &image[..k])
 }
 
-fn loaded_from(
-    task: Task,
-    line: &[u8],
-    table: FunnelTable,
-    counts: &[u64; 118],
-    words: &mut [u64],
-    flags: &mut [u8],
-    image: &mut [u8],
-) -> Said {
-    let k = spell(line, task.from, task.to, image);
-    of_loaded(load_image(table, counts, words, flags, &image[..k]))
-}
-
-fn of_loaded(answer: Loaded) -> Said {
-    match answer {
-        Loaded::Gate(gate) => say_gate(gate),
-        Loaded::Image { place } => say_refused_with(Name::Image, place),
-        Loaded::Foreign => say_refused(Name::Foreign),
-        Loaded::Done {
-            table,
-            label_at,
-            label_len,
-        } => say_fields(OK, 3, label_at, label_len, table.count),
+fn refusal_of(refused: LoadRefusal) -> Refusal {
+    match refused {
+        LoadRefusal::Gate(gate) => Refusal::from(gate),
+        LoadRefusal::Image { place } => Refusal::Valued(Name::Image, place),
+        LoadRefusal::Foreign => Refusal::Named(Name::Foreign),
     }
 }
 
-fn put_loaded(said: Said, words: &[u64], flags: &[u8], out: &mut [u8], at: usize) -> usize {
-    let to = put_said(said, out, at);
-    if said.letter == OK {
-        return put_digest(words, flags, out, to);
-    }
-    put_kept(do_count_up(words) && all_bytes(flags, 1), out, to)
+// Whether a refusal left words and flags as they were.
+fn is_kept(words: &[u64], flags: &[u8]) -> bool {
+    words.iter().enumerate().all(|(slot, word)| *word == before(slot))
+        && flags.iter().all(|flag| *flag == 1)
 }

@@ -1,93 +1,86 @@
 // EL and FL: the layouts.
-use geometry::elastic::{ElasticPlan, ElasticPlanned, elastic_plan};
-use geometry::funnel::{FunnelPlan, FunnelPlanned};
+use geometry::elastic::elastic_plan;
+use geometry::funnel::FunnelPlan;
 use geometry_funnel::plan::funnel_plan;
-use script::print::{put_said, say_gate, say_unknown};
-use text::field::{numbers, were_exactly};
-use text::out::{put_decimal, put_field, put_pairs, put_row};
+use script::print::{Refusal, put_answer};
+use std::fmt;
+use std::fmt::Display;
+use text::field::Fields;
+use text::out::Out;
 
-// n and e, or what is none.
-#[derive(Clone, Copy)]
-enum Sizes {
-    Of { n: u64, e: u32 },
-    Unknown,
-}
-
-fn sizes_of(line: &[u8], args: usize) -> Sizes {
-    let mut a = [0u64; 2];
-    let row = numbers(line, args, &mut a);
-    if !were_exactly(line, row, 2) {
-        return Sizes::Unknown;
-    }
-    let e = a[1];
-    if 4294967295 < e {
-        return Sizes::Unknown;
-    }
-    Sizes::Of {
-        n: a[0],
-        e: e as u32,
+// n and e.
+fn sizes_of(fields: Fields) -> Result<(u64, u32), Refusal> {
+    let [n, e] = fields.just_numbers::<2>().ok_or(Refusal::Unknown)?;
+    match u32::try_from(e) {
+        Ok(e) => Ok((n, e)),
+        Err(_) => Err(Refusal::Unknown),
     }
 }
 
-// EL n e or FL n e
-pub fn command(elastic: bool, line: &[u8], args: usize, out: &mut [u8], at: usize) -> usize {
-    match sizes_of(line, args) {
-        Sizes::Unknown => put_said(say_unknown(), out, at),
-        Sizes::Of { n, e } => layout_of(elastic, n, e, out, at),
-    }
+// EL n e
+pub fn elastic(fields: Fields, out: &mut Out) {
+    put_answer(elastic_of(fields), out);
 }
 
-fn layout_of(elastic: bool, n: u64, e: u32, out: &mut [u8], at: usize) -> usize {
-    if elastic {
-        return elastic_of(n, e, out, at);
-    }
-    funnel_of(n, e, out, at)
+// FL n e
+pub fn funnel(fields: Fields, out: &mut Out) {
+    put_answer(funnel_of(fields), out);
 }
 
 // Of an elastic table: maximum, number of levels, length:quota for each.
-fn elastic_of(n: u64, e: u32, out: &mut [u8], at: usize) -> usize {
-    let mut lengths = [0u64; 32];
-    let mut quotas = [0u64; 32];
-    match elastic_plan(n, e, &mut lengths, &mut quotas) {
-        ElasticPlanned::Refused(gate) => put_said(say_gate(gate), out, at),
-        ElasticPlanned::Plan(plan) => put_elastic(plan, &lengths, &quotas, out, at),
+#[derive(Clone, Copy)]
+struct ElasticLayout {
+    maximum: u64,
+    levels: u64,
+    lengths: [u64; 32],
+    quotas: [u64; 32],
+}
+
+impl Display for ElasticLayout {
+    fn fmt<W: fmt::Write>(&self, f: &mut fmt::Formatter<W>) -> fmt::Result {
+        write!(f, "{} {}", self.maximum, self.levels)?;
+        for (length, quota) in self.lengths.iter().zip(&self.quotas).take(self.levels as usize) {
+            write!(f, " {length}:{quota}")?;
+        }
+        Ok(())
     }
 }
 
-fn put_elastic(
-    plan: ElasticPlan,
-    lengths: &[u64; 32],
-    quotas: &[u64; 32],
-    out: &mut [u8],
-    at: usize,
-) -> usize {
-    let mut to = put_decimal(out, at, plan.maximum);
-    to = put_field(out, to, plan.levels);
-    put_pairs(out, to, plan.levels, lengths, quotas)
+fn elastic_of(fields: Fields) -> Result<ElasticLayout, Refusal> {
+    let (n, e) = sizes_of(fields)?;
+    let mut lengths = [0; 32];
+    let mut quotas = [0; 32];
+    let plan = elastic_plan(n, e, &mut lengths, &mut quotas)?;
+    Ok(ElasticLayout {
+        maximum: plan.maximum,
+        levels: plan.levels,
+        lengths,
+        quotas,
+    })
 }
 
 // Of a funnel table: maximum alpha beta g width s, then all alpha bucket counts.
-fn funnel_of(n: u64, e: u32, out: &mut [u8], at: usize) -> usize {
-    let mut counts = [0u64; 118];
-    match funnel_plan(n, e, &mut counts) {
-        FunnelPlanned::Refused(gate) => put_said(say_gate(gate), out, at),
-        FunnelPlanned::Plan(plan) => put_funnel(plan, &counts, out, at),
+#[derive(Clone, Copy)]
+pub struct FunnelLayout {
+    pub plan: FunnelPlan,
+    pub counts: [u64; 118],
+}
+
+impl Display for FunnelLayout {
+    fn fmt<W: fmt::Write>(&self, f: &mut fmt::Formatter<W>) -> fmt::Result {
+        let plan = self.plan;
+        write!(f, "{} {} {}", plan.maximum, plan.alpha, plan.beta)?;
+        write!(f, " {} {} {}", plan.loglog_ceiling, plan.fallback_bucket_width, plan.special_len)?;
+        for count in self.counts.iter().take(plan.alpha as usize) {
+            write!(f, " {count}")?;
+        }
+        Ok(())
     }
 }
 
-pub fn put_funnel(plan: FunnelPlan, counts: &[u64; 118], out: &mut [u8], at: usize) -> usize {
-    let row = [
-        plan.alpha,
-        plan.beta,
-        plan.loglog_ceiling,
-        plan.fallback_bucket_width,
-        plan.special_len,
-    ];
-    let mut to = put_decimal(out, at, plan.maximum);
-    to = put_five(&row, out, to);
-    put_row(out, to, plan.alpha, counts)
-}
-
-fn put_five(row: &[u64; 5], out: &mut [u8], at: usize) -> usize {
-    put_row(out, at, 5, row)
+fn funnel_of(fields: Fields) -> Result<FunnelLayout, Refusal> {
+    let (n, e) = sizes_of(fields)?;
+    let mut counts = [0; 118];
+    let plan = funnel_plan(n, e, &mut counts)?;
+    Ok(FunnelLayout { plan, counts })
 }

@@ -1,105 +1,97 @@
-// A command on numbers told by its word, as a number; what it answers is worked out as a value, which one function prints.
-use crate::draws::draw;
+// A command on numbers told by its word.
+use crate::draws::{domain, index_or, number_or_counter};
 use crate::phi::{bounded, coordinates, position};
 use crate::smallest;
 use crate::smallest::minimum;
-use elastic_probe::budget::{Budgeted, budget};
+use elastic_probe::budget::budget;
+use probe::counter::{elastic_counter, funnel_counter};
 use probe::mix::mix64;
+use probe::range::{elastic_reduce, funnel_reduce};
+use probe::word::{elastic_word, funnel_word};
 use refusal::Name;
-use script::print::{Said, put_said, say_number, say_refused_with, say_unknown};
-use text::field::{numbers, were_exactly};
+use script::print::{Numbers, Refusal, put_answer};
+use text::field::Fields;
+use text::out::Out;
+use words::place::LogicalProbe;
 
-const MIX: u64 = 0x1_4D_4958;
-
-const PHI: u64 = 0x1_50_4849;
-
-const PHB: u64 = 0x1_50_4842;
-
-const PHINV: u64 = 0x1_50_4849_4E56;
-
-const BUD: u64 = 0x1_42_5544;
-
-const SN: u64 = 0x1_534E;
-
-const MS: u64 = 0x1_4D53;
-
-// The answer to a command by the number of its word.
-pub fn command(key: u64, line: &[u8], args: usize, out: &mut [u8], at: usize) -> usize {
-    if key == SN {
-        return smallest::command(line, args, out, at);
-    }
-    put_said(answer(key, line, args), out, at)
-}
-
-fn answer(key: u64, line: &[u8], args: usize) -> Said {
-    if key == PHI {
-        return position(line, args);
-    }
-    if key == PHINV {
-        return coordinates(line, args);
-    }
-    numbered(key, line, args)
-}
-
-// The answer to a command whose arguments are numbers of one word.
-fn numbered(key: u64, line: &[u8], args: usize) -> Said {
-    let mut a = [0u64; 7];
-    let row = numbers(line, args, &mut a);
-    if were_exactly(line, row, arity(key)) {
-        return of_numbers(key, a);
-    }
-    say_unknown()
-}
-
-// How many arguments a command has; 0 where it is none.
-fn arity(key: u64) -> usize {
-    match key {
-        // MIX
-        0x1_4D_4958 => 1,
-        // PHB
-        0x1_50_4842 => 2,
-        // MS
-        0x1_4D53 => 2,
-        // EP
-        0x1_4550 => 3,
-        // FP
-        0x1_4650 => 4,
-        // BUD
-        0x1_42_5544 => 4,
-        // EW
-        0x1_4557 => 5,
-        // FW
-        0x1_4657 => 6,
-        // ER
-        0x1_4552 => 6,
-        // FR
-        0x1_4652 => 7,
-        _ => 0,
+// The answer to a command by its word.
+pub fn command(word: &[u8], fields: Fields, out: &mut Out) {
+    match word {
+        b"SN" => smallest::command(fields, out),
+        _ => put_answer(answer(word, fields), out),
     }
 }
 
-fn of_numbers(key: u64, a: [u64; 7]) -> Said {
-    if key == MIX {
-        return say_number(mix64(a[0]));
+fn answer(word: &[u8], fields: Fields) -> Result<Numbers, Refusal> {
+    match word {
+        b"MIX" => {
+            let [x] = arguments::<1>(fields)?;
+            Ok(Numbers::from(mix64(x)))
+        }
+        b"PHI" => position(fields),
+        b"PHB" => {
+            let [i, j] = arguments::<2>(fields)?;
+            bounded(i, j)
+        }
+        b"PHINV" => coordinates(fields),
+        b"MS" => {
+            let [e, from] = arguments::<2>(fields)?;
+            minimum(e, from)
+        }
+        b"BUD" => {
+            let [free, level, e, c] = arguments::<4>(fields)?;
+            budgeted(free, level, e, c)
+        }
+        _ => draw(word, fields),
     }
-    if key == PHB {
-        return bounded(a[0], a[1]);
-    }
-    if key == MS {
-        return minimum(a[0], a[1]);
-    }
-    if key == BUD {
-        return budgeted(a[0], a[1], a[2], a[3]);
-    }
-    draw(key, a)
 }
 
-fn budgeted(free: u64, level: u64, e: u64, c: u64) -> Said {
+// Counters, words and reductions.
+fn draw(word: &[u8], fields: Fields) -> Result<Numbers, Refusal> {
+    match word {
+        b"EP" => {
+            let [level, probe, retry] = arguments::<3>(fields)?;
+            number_or_counter(elastic_counter(level, LogicalProbe(probe), retry))
+        }
+        b"EW" => {
+            let [seed, identity, level, probe, retry] = arguments::<5>(fields)?;
+            let probe = LogicalProbe(probe);
+            number_or_counter(elastic_word(seed, identity, level, probe, retry))
+        }
+        b"ER" => {
+            let [seed, identity, level, probe, upper, cap] = arguments::<6>(fields)?;
+            let probe = LogicalProbe(probe);
+            index_or(elastic_reduce(seed, identity, level, probe, upper, cap))
+        }
+        b"FP" => {
+            let [tag, level, probe, retry] = arguments::<4>(fields)?;
+            number_or_counter(funnel_counter(domain(tag, level)?, LogicalProbe(probe), retry))
+        }
+        b"FW" => {
+            let [seed, identity, tag, level, probe, retry] = arguments::<6>(fields)?;
+            let probe = LogicalProbe(probe);
+            number_or_counter(funnel_word(seed, identity, domain(tag, level)?, probe, retry))
+        }
+        b"FR" => {
+            let [seed, identity, tag, level, probe, upper, cap] = arguments::<7>(fields)?;
+            let probe = LogicalProbe(probe);
+            index_or(funnel_reduce(seed, identity, domain(tag, level)?, probe, upper, cap))
+        }
+        _ => Err(Refusal::Unknown),
+    }
+}
+
+// The fields as just so many numbers.
+fn arguments<const N: usize>(fields: Fields) -> Result<[u64; N], Refusal> {
+    fields.just_numbers::<N>().ok_or(Refusal::Unknown)
+}
+
+fn budgeted(free: u64, level: u64, e: u64, c: u64) -> Result<Numbers, Refusal> {
     if 4294967295 < e {
-        return say_unknown();
+        return Err(Refusal::Unknown);
     }
     match budget(free, level, e, c) {
-        Budgeted::Probes(probes) => say_number(probes),
-        Budgeted::Budget { reason } => say_refused_with(Name::Budget, reason),
+        Ok(probes) => Ok(Numbers::from(probes)),
+        Err(refused) => Err(Refusal::Valued(Name::Budget, refused.reason())),
     }
 }

@@ -1,49 +1,57 @@
 // SN and MS: the smallest funnel table, and the lower bound on layouts.
-use crate::layouts::put_funnel;
-use geometry::funnel::FunnelPlan;
-use geometry_smallest::minimum::{MinimumSlots, funnel_minimum_slots};
-use geometry_smallest::smallest::{SmallestFunnel, smallest_funnel};
+use crate::layouts::FunnelLayout;
+use geometry_smallest::minimum::funnel_minimum_slots;
+use geometry_smallest::smallest::{SmallestRefusal, smallest_funnel};
 use refusal::Name;
-use script::print::{Said, put_said, say_gate, say_number, say_refused, say_unknown};
-use text::field::{numbers, were_exactly};
-use text::out::{put_byte, put_decimal};
+use script::print::{Numbers, Refusal, put_answer};
+use std::fmt;
+use std::fmt::Display;
+use text::field::Fields;
+use text::out::Out;
 
-// SN count e first last: the smallest n, then what FL answers.
-pub fn command(line: &[u8], args: usize, out: &mut [u8], at: usize) -> usize {
-    let mut a = [0u64; 4];
-    let row = numbers(line, args, &mut a);
-    if !were_exactly(line, row, 4) {
-        return put_said(say_unknown(), out, at);
-    }
-    let e = a[1];
-    if 4294967295 < e {
-        return put_said(say_unknown(), out, at);
-    }
-    smallest_of(a[0], e as u32, a[2], a[3], out, at)
+// The smallest n, then what FL answers.
+#[derive(Clone, Copy)]
+struct Smallest {
+    n: u64,
+    layout: FunnelLayout,
 }
 
-fn smallest_of(count: u64, e: u32, first: u64, last: u64, out: &mut [u8], at: usize) -> usize {
-    let mut counts = [0u64; 118];
+impl Display for Smallest {
+    fn fmt<W: fmt::Write>(&self, f: &mut fmt::Formatter<W>) -> fmt::Result {
+        write!(f, "{} {}", self.n, self.layout)
+    }
+}
+
+// SN count e first last
+pub fn command(fields: Fields, out: &mut Out) {
+    put_answer(smallest_of(fields), out);
+}
+
+fn smallest_of(fields: Fields) -> Result<Smallest, Refusal> {
+    let [count, e, first, last] = fields.just_numbers::<4>().ok_or(Refusal::Unknown)?;
+    let Ok(e) = u32::try_from(e) else {
+        return Err(Refusal::Unknown);
+    };
+    let mut counts = [0; 118];
     match smallest_funnel(count, e, first, last, &mut counts) {
-        SmallestFunnel::Found(n, plan) => put_found(n, plan, &counts, out, at),
-        SmallestFunnel::Refused(gate) => put_said(say_gate(gate), out, at),
-        SmallestFunnel::Nothing => put_said(say_refused(Name::None), out, at),
+        Ok(found) => Ok(Smallest {
+            n: found.n,
+            layout: FunnelLayout {
+                plan: found.plan,
+                counts,
+            },
+        }),
+        Err(SmallestRefusal::Refused(gate)) => Err(Refusal::from(gate)),
+        Err(SmallestRefusal::Nothing) => Err(Refusal::Named(Name::None)),
     }
-}
-
-fn put_found(n: u64, plan: FunnelPlan, counts: &[u64; 118], out: &mut [u8], at: usize) -> usize {
-    let mut to = put_decimal(out, at, n);
-    to = put_byte(out, to, b' ');
-    put_funnel(plan, counts, out, to)
 }
 
 // MS e from
-pub fn minimum(e: u64, from: u64) -> Said {
-    if 4294967295 < e {
-        return say_unknown();
-    }
-    match funnel_minimum_slots(e as u32, from) {
-        MinimumSlots::Slots(n) => say_number(n),
-        MinimumSlots::Nothing => say_refused(Name::None),
-    }
+pub fn minimum(e: u64, from: u64) -> Result<Numbers, Refusal> {
+    let Ok(e) = u32::try_from(e) else {
+        return Err(Refusal::Unknown);
+    };
+    funnel_minimum_slots(e, from)
+        .map(Numbers::from)
+        .ok_or(Refusal::Named(Name::None))
 }

@@ -1,97 +1,43 @@
 // Bytes as pairs of hexadecimal digits, in fields and in answers.
-ghost use Rattle.std.specs.Prelude.{◌≤◌, length};
+ghost use Rattle.std.specs.Prelude.{◌<◌, ◌≤◌, length};
 
-use text::field::digit16;
-use text::out::put_byte;
+use text::out::Out;
+
+const DIGITS: [u8; 16] = *b"0123456789abcdef";
 
 // Whether a field is bytes: pairs of digits, at least one, or `-` for none.
-pub fn are_bytes(line: &[u8], from: usize, to: usize) -> bool {
-    if line.len() < to {
-        return false;
-    }
-    if to <= from {
-        return false;
-    }
-    if to - from == 1 {
-        return line[from] == b'-';
-    }
-    if (to - from) % 2 == 1 {
-        return false;
-    }
-    are_digits(line, from, to)
-}
-
-fn are_digits(line: &[u8], from: usize, to: usize) -> bool {
-    let mut i = from;
-    while i < to {
-        if line.len() <= i {
-            return false;
-        }
-        if digit16(line[i]) == 16 {
-            return false;
-        }
-        i += 1;
-    }
-    true
+pub fn are_bytes(field: &[u8]) -> bool {
+    let are_pairs = !field.is_empty() && field.len() % 2 == 0;
+    field == b"-".as_slice() || are_pairs && field.iter().all(|b| b.is_ascii_hexdigit())
 }
 
 // The bytes that a field spells, as many as go in; how many these are.
-pub fn spell(line: &[u8], from: usize, to: usize, into: &mut [u8]) -> usize
+pub fn spell(field: &[u8], into: &mut [u8]) -> usize
     ensures { result ≤ length into.new }
 {
-    if to < 2 {
-        return 0;
+    let count = (field.len() / 2).min(into.len());
+    for (b, pair) in into.iter_mut().zip(field.chunks_exact(2)) {
+        *b = digit(pair[0]) * 16 + digit(pair[1]);
     }
-    // Where the last pair starts.
-    let last = to - 2;
-    let mut i = from;
-    let mut k = 0;
-    while k < into.len() {
-        if last < i {
-            return k;
-        }
-        into[k] = pair(line, i);
-        i += 2;
-        k += 1;
-    }
-    k
+    count
 }
 
-// The byte that two digits spell.
-fn pair(line: &[u8], at: usize) -> u8 {
-    if line.len() < 2 {
-        return 0;
+// A digit's number; 0 for another byte, of which `are_bytes` leaves none.
+fn digit(b: u8) -> u8
+    ensures { result < 16 }
+{
+    match b {
+        b'0'..=b'9' => b - b'0',
+        b'a'..=b'f' => b - b'a' + 10,
+        b'A'..=b'F' => b - b'A' + 10,
+        _ => 0,
     }
-    if line.len() - 2 < at {
-        return 0;
-    }
-    let high = digit16(line[at]) % 16;
-    let low = digit16(line[at + 1]) % 16;
-    (high * 16 + low) as u8
 }
 
 // Bytes as pairs of digits, in small letters.
-pub fn put_bytes(bytes: &[u8], out: &mut [u8], at: usize) -> usize {
-    let mut to = at;
-    let mut i = 0;
-    while i < bytes.len() {
-        to = put_pair(bytes[i], out, to);
-        i += 1;
+pub fn put_bytes(bytes: &[u8], out: &mut Out) {
+    for b in bytes {
+        out.byte(DIGITS[usize::from(b / 16)]);
+        out.byte(DIGITS[usize::from(b % 16)]);
     }
-    to
-}
-
-fn put_pair(b: u8, out: &mut [u8], at: usize) -> usize {
-    let to = put_byte(out, at, letter(b / 16));
-    put_byte(out, to, letter(b % 16))
-}
-
-fn letter(digit: u8) -> u8 {
-    if digit < 10 {
-        return b'0' + digit;
-    }
-    if digit < 16 {
-        return b'a' + (digit - 10);
-    }
-    b'?'
 }

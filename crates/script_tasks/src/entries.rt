@@ -1,97 +1,42 @@
 // What a table holds, as WRITE and CHECK are told it: SLOT=ID, which is flagged 1, or SLOT=ID:FLAG.
-use script::operation::{Split, find_byte, split_pair};
-use text::field::{OneWord, field_after, field_end, number};
+use script::operation::{split_at_byte, split_pair};
+use text::field::{Fields, number};
 
 #[derive(Clone, Copy)]
-pub enum Entry {
-    Holds { slot: u64, word: u64, flag: u8 },
-    Unknown,
+struct Entry {
+    slot: u64,
+    word: u64,
+    flag: u8,
 }
 
-// Whether every field from one on is an entry of a table of n slots.
-pub fn are_entries(line: &[u8], from: usize, n: u64) -> bool {
-    let mut next = from;
-    // A line has no more fields than bytes, since none is empty.
-    let mut turns = line.len();
-    while 0 < turns {
-        if line.len() < next {
-            return true;
-        }
-        let end = field_end(line, next);
-        if !is_entry(line, next, end, n) {
-            return false;
-        }
-        next = field_after(line, end);
-        turns -= 1;
-    }
-    true
-}
-
-fn is_entry(line: &[u8], from: usize, to: usize, n: u64) -> bool {
-    match entry_in(line, from, to) {
-        Entry::Unknown => false,
-        Entry::Holds {
-            slot,
-            word: _,
-            flag: _,
-        } => slot < n,
-    }
+// Whether every field is an entry of a table of n slots.
+pub fn are_entries(mut fields: Fields, n: u64) -> bool {
+    fields.all(|field| entry_in(field).is_some_and(|entry| entry.slot < n))
 }
 
 // The entry in a field.
-fn entry_in(line: &[u8], from: usize, to: usize) -> Entry {
-    let colon = find_byte(line, from, to, b':');
-    if to <= colon {
-        return flagged(split_pair(line, from, to), 1);
-    }
-    let OneWord::Value(flag) = number(line, colon + 1, to) else {
-        return Entry::Unknown;
+fn entry_in(field: &[u8]) -> Option<Entry> {
+    let (pair, flag) = match split_at_byte(field, b':') {
+        Some((pair, flag)) => (pair, u8::try_from(number(flag)?).ok()?),
+        None => (field, 1),
     };
-    if 255 < flag {
-        return Entry::Unknown;
-    }
-    flagged(split_pair(line, from, colon), flag as u8)
+    let (slot, word) = split_pair(pair)?;
+    Some(Entry { slot, word, flag })
 }
 
-fn flagged(pair: Split, flag: u8) -> Entry {
-    match pair {
-        Split::Unknown => Entry::Unknown,
-        Split::Into { left, right } => Entry::Holds {
-            slot: left,
-            word: right,
-            flag,
-        },
-    }
-}
-
-// Puts all entries from a field on into a table, one after the other.
-pub fn put_entries(line: &[u8], from: usize, words: &mut [u64], flags: &mut [u8]) {
-    let mut next = from;
-    let mut turns = line.len();
-    while 0 < turns {
-        if line.len() < next {
-            return;
+// Puts all entries into a table, one after the other.
+pub fn put_entries(fields: Fields, words: &mut [u64], flags: &mut [u8]) {
+    for field in fields {
+        if let Some(entry) = entry_in(field) {
+            put_entry(entry, words, flags);
         }
-        let end = field_end(line, next);
-        put_entry(entry_in(line, next, end), words, flags);
-        next = field_after(line, end);
-        turns -= 1;
     }
 }
 
 fn put_entry(entry: Entry, words: &mut [u64], flags: &mut [u8]) {
-    match entry {
-        Entry::Unknown => {}
-        Entry::Holds { slot, word, flag } => {
-            let i = slot as usize;
-            if words.len() <= i {
-                return;
-            }
-            if flags.len() <= i {
-                return;
-            }
-            words[i] = word;
-            flags[i] = flag;
-        }
+    let slot = entry.slot as usize;
+    if slot < words.len() && slot < flags.len() {
+        words[slot] = entry.word;
+        flags[slot] = entry.flag;
     }
 }

@@ -3,13 +3,11 @@
 //     request.rt   the table that a command opens, and what it asks of it
 //     bytes.rt     bytes as pairs of hexadecimal digits
 //     entries.rt   what a table holds: SLOT=ID or SLOT=ID:FLAG
-//     buffers.rt   what lent buffers hold on entry, and whether they still do
 //
 // It makes no call on a table, so it is proved beside these calls.
 
 #![tactic(auto)]
 
-pub mod buffers;
 pub mod bytes;
 pub mod entries;
 pub mod request;

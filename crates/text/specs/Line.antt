@@ -1,5 +1,5 @@
 -- Lines out of an input that comes in parts. Assumes nothing.
-use Rattle.std.specs.Prelude.{◌≡◌, ℕ, ◌<◌, Bool, true, false, List, [], ◌∷◌, ◌++◌, length, take, drop, ◌==◌, nat_lt}
+use Rattle.std.specs.Prelude.{◌≡◌, ℕ, ◌<◌, Bool, true, false, List, [], ◌∷◌, ◌++◌, length, take, drop, ◌==◌, nat_lt, Option, Some, None}
 use Rattle.words.specs.Pick.{pick}
 
 -- a byte more of a line, "at most" so many: a longer line keeps its first bytes
@@ -36,3 +36,8 @@ pub record Takes (part : List ℕ) (from : ℕ) (before : List ℕ) (so_far : �
 -- what a part leaves in the buffer: the bytes of its last line, held for the next part
 pub record Leaves (part before : List ℕ) (size : ℕ) (after : List ℕ) (len : ℕ) : Type 0 where
   pub holds : take len after ≡ held_of (length before) (take size before) part
+
+-- what was taken by where the next line starts: none where the part ended before its line did
+abbrev pub TakesTo : (part : List ℕ) (from : ℕ) (before : List ℕ) (so_far : ℕ) (after : List ℕ) (size : ℕ) → Option ℕ → Type 0
+TakesTo part from before so_far after size (Some next) = Takes part from before so_far after size next true
+TakesTo part from before so_far after size None = Takes part from before so_far after size (length part) false

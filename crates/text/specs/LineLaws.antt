@@ -79,6 +79,19 @@ module _ (part : List ℕ) (from : ℕ) (before : List ℕ) (so_far : ℕ) (line
       let e = g.rest in
       record { says = rw d at e; room = g.room; onward = λ l. omega (arith, g.on); whole = λ q. d }
 
+  -- the same by the part's end
+  pub going_over : length part ≤ i → Takes part from before so_far line len (length part) false
+  unfolding line_of
+  going_over h =
+      let d = drop_past part i h in
+      let e = g.rest in
+      record {
+        says = rw d at e;
+        room = g.room;
+        onward = λ l. l;
+        whole = λ q. drop_past part (length part) (omega arith);
+      }
+
   module _ (b : ℕ) (l : i < length part) (is : b ≡ slice_index part i) where
     pub going_ends : b ≡ 10 → Takes part from before so_far line len (i + 1) true
     going_ends e =

@@ -1,216 +1,110 @@
 // Fields of a line, and numbers: plain decimals, or 0x and hexadecimal digits.
-ghost use Rattle.std.specs.Prelude.{◌≡◌, ◌+◌, ◌-◌, ◌^◌, ◌<◌, ◌≤◌, length};
+ghost use Rattle.std.specs.Prelude.{◌≤◌};
+ghost use Rattle.std.specs.Iterator.{at_most};
+ghost use Rattle.text.specs.Fields.{fields_left};
 
-use words::product::{Wide, multiply_wide};
+use words::product::Wide;
 
-// A number of one word, or none.
+// The fields of a line that are left, between single spaces; none are left after the last one.
 #[derive(Clone, Copy)]
-pub enum OneWord {
-    Value(u64),
-    Bad,
+pub struct Fields<'a> {
+    rest: Option<&'a [u8]>,
 }
 
-// A number of two words, or none.
-#[derive(Clone, Copy)]
-pub enum TwoWords {
-    Value(Wide),
-    Bad,
-}
+impl<'a> Fields<'a> {
+    pub fn new(line: &'a [u8]) -> Fields<'a> {
+        Fields { rest: Some(line) }
+    }
 
-// What a row of number fields gave: how many there were, and where the next field starts, past the line where there is
-// none. Where one of the fields was no number, `next` is where it starts and `good` is false.
-#[derive(Clone, Copy)]
-pub struct Row {
-    pub count: usize,
-    pub next: usize,
-    pub good: bool,
-}
+    // All that is left of the line as one field, or none.
+    pub fn last(self) -> Option<&'a [u8]> {
+        self.rest
+    }
 
-// The end of the field that starts at `from`: the next space, or the end of the line.
-pub fn field_end(line: &[u8], from: usize) -> usize
-    ensures { from ≤ result }
-{
-    let mut i = from;
-    while i < line.len() {
-        if line[i] == b' ' {
-            return i;
+    // The next field as a number, or none.
+    pub fn number(&mut self) -> Option<u64> {
+        number(self.next()?)
+    }
+
+    // The next fields as numbers, or none where there are fewer or one is no number.
+    pub fn numbers<const N: usize>(&mut self) -> Option<[u64; N]> {
+        let mut row = [0; N];
+        for x in row.iter_mut() {
+            *x = self.number()?;
         }
-        i += 1;
+        Some(row)
     }
-    i
-}
 
-// Where the field after one that ends at `end` starts; past the line where there is none.
-pub fn field_after(line: &[u8], end: usize) -> usize
-    ensures { (end < length line.now → result ≡ end + 1) × (length line.now ≤ end → result ≡ 2 ^ 64 - 1) }
-{
-    if end < line.len() {
-        return end + 1;
-    }
-    usize::MAX
-}
-
-// The digit that a byte is in a base of at most 16, or 16.
-fn digit(b: u8, base: u64) -> u64 {
-    let d = digit16(b);
-    if d < base { d } else { 16 }
-}
-
-// The hexadecimal digit that a byte is, or 16.
-pub fn digit16(b: u8) -> u64 {
-    if b'0' <= b && b <= b'9' {
-        return (b - b'0') as u64;
-    }
-    if b'a' <= b && b <= b'f' {
-        return (b - b'a') as u64 + 10;
-    }
-    if b'A' <= b && b <= b'F' {
-        return (b - b'A') as u64 + 10;
-    }
-    16
-}
-
-// One digit more behind a number of two words, or none where it has no room.
-fn append_digit(x: Wide, base: u64, d: u64) -> TwoWords {
-    let low = multiply_wide(x.lo, base);
-    let high = multiply_wide(x.hi, base);
-    if high.hi != 0 {
-        return TwoWords::Bad;
-    }
-    let lo = std::num::wrapping_add_u64(low.lo, d);
-    let carry = if lo < d { 1 } else { 0 };
-    let part = std::num::wrapping_add_u64(low.hi, carry);
-    let hi = std::num::wrapping_add_u64(high.lo, part);
-    if part < carry || hi < part {
-        return TwoWords::Bad;
-    }
-    TwoWords::Value(Wide { hi, lo })
-}
-
-// The number that the digits of a part make, or none where it is empty, has another byte or is too large.
-fn digits(line: &[u8], from: usize, to: usize, base: u64) -> TwoWords {
-    if to <= from || line.len() < to {
-        return TwoWords::Bad;
-    }
-    let mut x = Wide { hi: 0, lo: 0 };
-    let mut i = from;
-    while i < to {
-        let d = digit(line[i], base);
-        if d == 16 {
-            return TwoWords::Bad;
+    // All fields that are left as numbers, or none where there are more or fewer or one is no number.
+    pub fn just_numbers<const N: usize>(mut self) -> Option<[u64; N]> {
+        let row = self.numbers()?;
+        match self.rest {
+            None => Some(row),
+            Some(_) => None,
         }
-        match append_digit(x, base, d) {
-            TwoWords::Bad => {
-                return TwoWords::Bad;
+    }
+}
+
+impl<'a> Iterator for Fields<'a> {
+    type Item = &'a [u8];
+
+    ghost remaining = { λ s. at_most (fields_left s) };
+
+    fn next(&mut self) -> Option<&'a [u8]> {
+        let rest = self.rest?;
+        match rest.iter().position(|b| *b == b' ') {
+            Some(space) => {
+                self.rest = Some(&rest[space + 1..]);
+                Some(&rest[..space])
             }
-            TwoWords::Value(next) => {
-                x = next;
+            None => {
+                self.rest = None;
+                Some(rest)
             }
         }
-        i += 1;
     }
-    TwoWords::Value(x)
+}
+
+// One digit more behind a number, or none where it has no room.
+fn append_digit(x: u128, base: u32, b: u8) -> Option<u128>
+    requires { (2 ≤ base) × (base ≤ 36) }
+{
+    let d = char::from(b).to_digit(base)?;
+    x.checked_mul(u128::from(base))?.checked_add(u128::from(d))
+}
+
+// The number that the digits of a field make, or none where it is empty, has another byte or is too large.
+fn digits(field: &[u8], base: u32) -> Option<u128>
+    requires { (2 ≤ base) × (base ≤ 36) }
+{
+    if field.is_empty() {
+        return None;
+    }
+    field.iter().try_fold(0, |x, b| append_digit(x, base, *b))
 }
 
 // A plain decimal of one word.
-pub fn decimal(line: &[u8], from: usize, to: usize) -> OneWord {
-    narrow(digits(line, from, to, 10))
+pub fn decimal(field: &[u8]) -> Option<u64> {
+    u64::try_from(digits(field, 10)?).ok()
 }
 
 // A number of two words, decimal or hexadecimal.
-pub fn wide_number(line: &[u8], from: usize, to: usize) -> TwoWords {
-    if line.len() < to {
-        return TwoWords::Bad;
+pub fn wide_number(field: &[u8]) -> Option<Wide> {
+    let x = whole_number(field)?;
+    Some(Wide {
+        hi: (x >> 64) as u64,
+        lo: (x & u128::from(u64::MAX)) as u64,
+    })
+}
+
+fn whole_number(field: &[u8]) -> Option<u128> {
+    match field.strip_prefix(b"0x") {
+        Some(hexadecimal) => digits(hexadecimal, 16),
+        None => digits(field, 10),
     }
-    if to < 2 {
-        return digits(line, from, to, 10);
-    }
-    if to - 2 < from {
-        return digits(line, from, to, 10);
-    }
-    if line[from] == b'0' {
-        if line[from + 1] == b'x' {
-            return digits(line, from + 2, to, 16);
-        }
-    }
-    digits(line, from, to, 10)
 }
 
 // A number of one word, decimal or hexadecimal.
-pub fn number(line: &[u8], from: usize, to: usize) -> OneWord {
-    narrow(wide_number(line, from, to))
-}
-
-fn narrow(x: TwoWords) -> OneWord {
-    match x {
-        TwoWords::Bad => OneWord::Bad,
-        TwoWords::Value(h) => {
-            if h.hi == 0 {
-                OneWord::Value(h.lo)
-            } else {
-                OneWord::Bad
-            }
-        }
-    }
-}
-
-// Whether a field is a word.
-pub fn is_word(line: &[u8], from: usize, to: usize, word: &[u8]) -> bool {
-    if to < from {
-        return false;
-    }
-    if line.len() < to {
-        return false;
-    }
-    if to - from != word.len() {
-        return false;
-    }
-    let mut i = 0;
-    while i < word.len() {
-        if line[from + i] != word[i] {
-            return false;
-        }
-        i += 1;
-    }
-    true
-}
-
-// The fields from `from` on as numbers, as many as there are and go in.
-pub fn numbers(line: &[u8], from: usize, into: &mut [u64]) -> Row {
-    let mut count = 0;
-    let mut next = from;
-    while count < into.len() {
-        if line.len() < next {
-            return Row {
-                count,
-                next,
-                good: true,
-            };
-        }
-        let to = field_end(line, next);
-        match number(line, next, to) {
-            OneWord::Bad => {
-                return Row {
-                    count,
-                    next,
-                    good: false,
-                };
-            }
-            OneWord::Value(x) => {
-                into[count] = x;
-            }
-        }
-        next = field_after(line, to);
-        count += 1;
-    }
-    Row {
-        count,
-        next,
-        good: true,
-    }
-}
-
-// Whether just `count` fields were numbers, and none came after them.
-pub fn were_exactly(line: &[u8], n: Row, count: usize) -> bool {
-    n.good && n.count == count && line.len() < n.next
+pub fn number(field: &[u8]) -> Option<u64> {
+    u64::try_from(whole_number(field)?).ok()
 }

@@ -1,10 +1,6 @@
 -- `elastic::state::counts_fit` meets its contract. The loop's invariant: the test of all counts is that of those from here on. Assumes nothing.
-use Prim.Native.Nat.{◌-◌}
 use Rattle.elastic.proofs.CountsFit.{Counting}
 use Rattle.elastic.proofs.state.counts_fit.Given as goal
 
 abbrev pub invariant-loop-i : goal.invariant-loop-i
 invariant-loop-i l = Counting l.n l.levels l.count l.counts l.rest l.left l.i
-
-abbrev pub decreases-loop-i : goal.decreases-loop-i
-decreases-loop-i l = 32 - l.i

@@ -2,16 +2,13 @@
 use mathlib.Core.Path.{sym, ◌∙◌}
 use Rattle.elastic.specs.StateLaws.{gate_valid}
 use Rattle.elastic_steps.specs.InsertLaws.{insert_gate, insert_place}
-use Rattle.lent.specs.Lent.{words_in}
 use Rattle.elastic_insert.proofs.insert.insert.Goals as goal
 
-pub returns-in-Refused : goal.returns-in-Refused
-returns-in-Refused c = insert_gate _ _ _ _ _ _ (sym c.state_gate.ensures ∙ c.in-Refused.is)
+pub returns-in-Err : goal.returns-in-Err
+returns-in-Err g c = rw c.from.ensures (insert_gate _ _ _ _ _ _ (sym (rw c.count.ensures at c.state_gate.ensures) ∙ c.in-Err.is))
 
 pub place-requires : goal.place-requires
-unfolding words_in
-place-requires c = gate_valid _ _ _ _ (sym c.state_gate.ensures ∙ c.in-Passed.is)
+place-requires g c = gate_valid _ _ _ _ (sym (rw c.count.ensures at c.state_gate.ensures) ∙ c.in-Ok.is)
 
-pub returns-in-Passed : goal.returns-in-Passed
-unfolding words_in
-returns-in-Passed c = insert_place _ _ _ _ _ _ (sym c.state_gate.ensures ∙ c.in-Passed.is) c.place.ensures
+pub returns-in-Ok : goal.returns-in-Ok
+returns-in-Ok g c = insert_place _ _ _ _ _ _ (sym (rw c.count.ensures at c.state_gate.ensures) ∙ c.in-Ok.is) c.place.ensures

@@ -1,12 +1,10 @@
 -- `elastic_insert::insert::position_of` meets its contract: the position fits a word. Assumes nothing.
-use Rattle.elastic_steps.specs.InsertLaws.{position_is, position_coord, position_over}
+use Rattle.std.proofs.Common.{refl}
+use Rattle.elastic_steps.specs.InsertLaws.{position_given, position_is}
 use Rattle.elastic_insert.proofs.insert.position_of.Goals as goal
 
-pub returns-in-At : goal.returns-in-At
-returns-in-At c = position_is _ _ c.requires.0 c.requires.1 _ c.phi_bounded.ensures _ c.in-At.is
+pub unwrap-requires : goal.unwrap-requires
+unwrap-requires c = rw (position_given _ _ c.requires.0 c.requires.1 _ c.phi_bounded.ensures) refl
 
-pub returns-in-Coord : goal.returns-in-Coord
-returns-in-Coord c = position_coord _ _ c.requires.0 c.requires.1 _ c.phi_bounded.ensures _ c.in-Coord.is
-
-pub returns-in-Overflow : goal.returns-in-Overflow
-returns-in-Overflow c = position_over _ _ c.requires.0 c.requires.1 _ c.phi_bounded.ensures c.in-Overflow.is
+pub returns : goal.returns
+returns c = position_is _ _ c.requires.0 c.requires.1 _ c.phi_bounded.ensures _ c.unwrap.ensures

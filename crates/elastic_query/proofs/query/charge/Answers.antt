@@ -8,6 +8,6 @@ pub returns-then-i-j-eq0 : goal.returns-then-i-j-eq0
 unfolding charged
 returns-then-i-j-eq0 c = sym (rw (eq-eqb _ _ c.if-i-j-eq0.true))
 
-pub returns : goal.returns
+pub returns-else-i-j-eq0 : goal.returns-else-i-j-eq0
 unfolding charged
-returns c = sym (rw (ne_eqb _ _ c.if-i-j-eq0.false))
+returns-else-i-j-eq0 c = sym (rw (ne_eqb _ _ c.if-i-j-eq0.false))

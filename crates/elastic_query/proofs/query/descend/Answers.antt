@@ -2,23 +2,23 @@ use native.Mathlib.Omega.{arith}
 use Rattle.elastic_query.specs.QueryLaws.{walked_start, walked_end, walked_scanning, walked_ends, walked_on}
 use Rattle.elastic_query.proofs.query.descend.Goals as goal
 
-pub loop-b-init : goal.loop-b-init
-loop-b-init c = walked_start _ _ _ _ _ c.requires.2
+pub loop-node-init : goal.loop-node-init
+loop-node-init g c = walked_start _ _ _ _ _ c.requires.2
 
 pub along-requires : goal.along-requires
-along-requires c = (c.requires.0, walked_scanning _ _ _ _ _ _ _ _ _ _ c.loop-b.invariant c.requires.1 c.loop-b-test.true)
+along-requires g c = (c.requires.0, walked_scanning _ _ _ _ _ _ _ _ _ _ c.loop-node.invariant c.requires.1 c.loop-node-test.true)
 
-pub returns-in-Ends : goal.returns-in-Ends
-returns-in-Ends c = walked_ends _ _ _ _ _ _ _ _ _ _ c.loop-b.invariant _ c.along.ensures _ c.in-Ends.is
+pub returns-in-Break : goal.returns-in-Break
+returns-in-Break g c = walked_ends _ _ _ _ _ _ _ _ _ _ c.loop-node.invariant _ c.along.ensures _ c.in-Break.is
 
-pub step-next-requires : goal.step-next-requires
-step-next-requires c = (c.loop-b.invariant.node, omega (arith, c.requires.0.near, c.loop-b-test.true))
+pub step-node-requires : goal.step-node-requires
+step-node-requires g c = (c.loop-node.invariant.node, omega (arith, c.requires.0.near, c.loop-node-test.true))
 
-pub loop-b-smaller : goal.loop-b-smaller
-loop-b-smaller c = omega (arith, c.step-next.ensures.1, c.loop-b-test.true)
+pub loop-node-smaller : goal.loop-node-smaller
+loop-node-smaller g c = omega (arith, c.step-node.ensures.1, c.loop-node-test.true)
 
-pub loop-b-preserved : goal.loop-b-preserved
-loop-b-preserved c = walked_on _ _ _ _ _ _ _ _ _ _ c.loop-b.invariant _ c.along.ensures _ _ _ _ _ c.requires.1 c.in-On.is c.step-next.ensures.0
+pub loop-node-preserved : goal.loop-node-preserved
+loop-node-preserved g c = walked_on _ _ _ _ _ _ _ _ _ _ c.loop-node.invariant _ c.along.ensures _ _ _ _ _ c.requires.1 c.in-Continue.is c.step-node.ensures.0
 
 pub returns : goal.returns
-returns c = walked_end _ _ _ _ _ _ _ _ _ _ c.loop-b.invariant c.loop-b-test.false
+returns g c = walked_end _ _ _ _ _ _ _ _ _ _ c.loop-node.invariant c.loop-node-test.false

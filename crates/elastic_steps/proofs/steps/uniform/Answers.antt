@@ -1,12 +1,16 @@
 -- `elastic_steps::steps::uniform` meets its contract: each return is a law of the search. Assumes nothing.
+use Rattle.std.proofs.Common.{ap, ◌∙◌, Ok}
+use Rattle.std.proofs.lemmas.Result.{err_from_is_err_and}
 use Rattle.elastic_steps.specs.InsertLaws.{uniform_vacant, uniform_passed, uniform_refused}
 use Rattle.elastic_steps.proofs.steps.uniform.Goals as goal
 
-pub returns-in-Vacant : goal.returns-in-Vacant
-returns-in-Vacant c = uniform_vacant _ _ _ _ _ _ _ _ c.seek_level.ensures _ _ c.in-Vacant.is
+pub returns-in_err-vacant : goal.returns-in_err-vacant
+returns-in_err-vacant c =
+    let e = err_from_is_err_and c.from_residual.result c.from_residual.ensures.1 in
+    rw (e.1, e.2) (uniform_refused _ _ _ _ _ _ _ _ c.seek.ensures _ c.in_err-vacant.was)
 
-pub returns-in-Passed : goal.returns-in-Passed
-returns-in-Passed c = uniform_passed _ _ _ _ _ _ _ _ c.seek_level.ensures c.in-Passed.is
+pub returns-in-Some : goal.returns-in-Some
+returns-in-Some c = uniform_vacant _ _ _ _ _ _ _ _ c.seek.ensures c.in-Some.vacant.slot c.in-Some.vacant.probe (c.in_ok-vacant.was ∙ ap Ok c.in-Some.is)
 
-pub returns-in-Refused : goal.returns-in-Refused
-returns-in-Refused c = uniform_refused _ _ _ _ _ _ _ _ c.seek_level.ensures _ c.in-Refused.is
+pub returns-in-None : goal.returns-in-None
+returns-in-None c = uniform_passed _ _ _ _ _ _ _ _ c.seek.ensures (c.in_ok-vacant.was ∙ ap Ok c.in-None.is)

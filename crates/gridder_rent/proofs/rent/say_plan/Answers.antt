@@ -4,6 +4,4 @@ use Rattle.gridder_rent.proofs.rent.say_plan.Goals as goal
 
 pub returns : goal.returns
 returns c =
-    let w = c in
-    let b = c in
-    block_written _ _ _ _ _ b.requires b.clear_bytes.ensures w.write_words.ensures
+    block_written _ _ _ _ _ c.told-answer c.clear_bytes.ensures c.write_words.ensures

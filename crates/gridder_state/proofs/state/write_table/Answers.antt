@@ -3,4 +3,4 @@ use Rattle.gridder_state.specs.StateLaws.{block_written}
 use Rattle.gridder_state.proofs.state.write_table.Goals as goal
 
 pub returns : goal.returns
-returns c = block_written _ _ _ _ _ _ _ c.requires c.wide.ensures c.clear_bytes.ensures c.write_words.ensures c.write_words-2.ensures
+returns c = block_written _ _ _ _ _ _ _ c.requires c.from.ensures c.clear_bytes.ensures c.write_words.ensures c.write_words-2.ensures

@@ -19,7 +19,7 @@ returns-then-word-ne0 g c = scan_word c.loop-slot.invariant c.loop-slot-test.tru
 pub loop-slot-preserved : goal.loop-slot-preserved
 loop-slot-preserved g c =
     elim c.if-flag-eq0.branch [
-      then-flag-eq0+else-word-ne0 w ↦
+      | then-flag-eq0+else-word-ne0 w ↦
           rw w.count-is (scan_vacant c.loop-slot.invariant c.loop-slot-test.true c.if-flag-gt1.false w.if-flag-eq0.true (sym w.word.ensures ∙ w.if-word-ne0.false))
       | else-flag-eq0 w ↦ rw w.count-is (scan_taken c.loop-slot.invariant c.loop-slot-test.true c.if-flag-gt1.false w.if-flag-eq0.false)
     ]

@@ -1,5 +1,5 @@
 -- `image_writer::writer::write_number` meets its contract. Assumes nothing.
-use Rattle.std.proofs.Common.{◌≡◌, ◌+◌, ◌≤◌, length, take, ap, sym, ◌∙◌}
+use Rattle.std.proofs.Common.{◌≡◌, ◌+◌, length, take, ap, sym, ◌∙◌}
 use lib.Seq.{length-sets}
 use native.Mathlib.Omega.{arith}
 use Rattle.words.specs.Bytes.{bytes_of}

@@ -1,10 +1,8 @@
 -- `text::line::gather` meets its contract. Assumes nothing.
-use Rattle.std.proofs.Common.{◌-◌, length}
+use Rattle.std.proofs.Common.{length}
 use Rattle.text.specs.LineLaws.{Going}
 use Rattle.text.proofs.line.gather.Given as goal
 
 abbrev pub invariant-loop-i : goal.invariant-loop-i
-invariant-loop-i l = Going l.part l.from l.initial.line l.so_far l.line l.len l.i
+invariant-loop-i l = Going l.part l.from l.initial.line l.so_far l.line l.length l.i
 
-abbrev pub decreases-loop-i : goal.decreases-loop-i
-decreases-loop-i l = length l.part - l.i

@@ -1,9 +1,0 @@
--- `script_tasks::buffers::do_count_up` meets its contract. Assumes nothing.
-use Rattle.std.proofs.Common.{◌-◌, ◌≤◌, length}
-use Rattle.script_tasks.proofs.buffers.do_count_up.Given as goal
-
-abbrev pub invariant-loop-i : goal.invariant-loop-i
-invariant-loop-i l = l.i ≤ length l.words
-
-abbrev pub decreases-loop-i : goal.decreases-loop-i
-decreases-loop-i l = length l.words - l.i
