@@ -103,6 +103,9 @@ fn walk<E: Stored>(sought: &Sought<E>) -> Walk
     ensures { WalksTo sought.now.view.now.table.now.plan.alpha sought.now.view.now.table.now.plan.beta result (levels_for sought.now) }
 {
     let view = sought.view;
+    let words = view.words;
+    let flags = view.flags;
+    let identity = sought.identity;
     let key = sought.key;
     let alpha = view.table.plan.alpha;
     let beta = view.table.plan.beta;
@@ -117,7 +120,7 @@ fn walk<E: Stored>(sought: &Sought<E>) -> Walk
         // The next level's bucket is drawn before this one is read, so that it is at hand when this one is full.
         let ahead = first_bucket(key, view.counts, alpha, level + 1);
         let from = start + bucket * beta;
-        match halt(view.words, view.flags, sought.identity, from, beta) {
+        match halt(words, flags, identity, from, beta) {
             Halt::Hit { index } => {
                 return Walk::Hit(level, bucket, from, index);
             }
