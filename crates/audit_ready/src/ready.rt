@@ -44,7 +44,7 @@ pub fn is_ready<E: Stored>(
 }
 
 // The slot that the levels settle a search of the placed part with. This is the walk of `funnel_search::search::pass_levels` once more, since
-// a walk is compiled into its caller only where it has no other, and both loops gain by that.
+// a walk is compiled into its caller only where it has no other, and both loops gain by that: with one walk for both, the placement was slower.
 fn pass_placed<E: Stored>(
     table: FunnelTable,
     counts: &[u64; 118],
@@ -58,23 +58,23 @@ fn pass_placed<E: Stored>(
     let key = funnel_key(table.seed, identity);
     let alpha = table.plan.alpha;
     let beta = table.plan.beta;
-    let mut level = 0;
     let mut start = 0;
     let mut bucket = first_bucket(key, counts, alpha, 0);
-    while level < alpha {
+    for level in 0..alpha {
         let count = counts[level as usize];
         if count <= bucket {
             return Stop::Nowhere;
         }
         let ahead = first_bucket(key, counts, table.plan.alpha, level + 1);
         let from = start + bucket * beta;
-        let stop = pass(words, marks, identity, from, beta);
-        let Stop::Nowhere = stop else {
-            return stop;
-        };
-        bucket = ahead;
-        start += count * beta;
-        level += 1;
+        match pass(words, marks, identity, from, beta) {
+            Stop::Hit { slot } => return Stop::Hit { slot },
+            Stop::Vacant { slot } => return Stop::Vacant { slot },
+            Stop::Nowhere => {
+                bucket = ahead;
+                start += count * beta;
+            }
+        }
     }
     Stop::Nowhere
 }

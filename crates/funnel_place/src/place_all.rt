@@ -37,14 +37,13 @@ pub fn place_all<E: Stored>(
                 };
             }
         };
-        let slot = match settled {
+        match settled {
             Settled::Put { slot } => {
+                E::put(slots, i, slot);
                 count += 1;
-                slot
             }
-            Settled::There { slot } => slot,
-        };
-        E::put(slots, i, slot);
+            Settled::There { slot } => E::put(slots, i, slot),
+        }
     }
     PlacedAll {
         answer: Ok(()),

@@ -109,10 +109,9 @@ fn walk<E: Stored>(sought: &Sought<E>) -> Walk
     let key = sought.key;
     let alpha = view.table.plan.alpha;
     let beta = view.table.plan.beta;
-    let mut level = 0;
     let mut start = 0;
     let mut bucket = first_bucket(key, view.counts, alpha, 0);
-    while level < alpha {
+    for level in 0..alpha {
         let count = view.counts[level as usize];
         if count <= bucket {
             return Walk::Unsettled;
@@ -130,7 +129,6 @@ fn walk<E: Stored>(sought: &Sought<E>) -> Walk
             Halt::Nowhere => {
                 bucket = ahead;
                 start += count * beta;
-                level += 1;
             }
         }
     }
@@ -144,24 +142,24 @@ pub fn pass_levels<E: Stored>(view: &View<E>, identity: u64) -> Stop
     let key = funnel_key(view.table.seed, identity);
     let alpha = view.table.plan.alpha;
     let beta = view.table.plan.beta;
-    let mut level = 0;
     let mut start = 0;
     let mut bucket = first_bucket(key, view.counts, alpha, 0);
-    while level < alpha {
+    for level in 0..alpha {
         let count = view.counts[level as usize];
         if count <= bucket {
             return Stop::Nowhere;
         }
-        // As in `search_levels`, the next level's bucket is drawn before this one is read.
+        // As in `walk`, the next level's bucket is drawn before this one is read, and each kind of stop has an arm.
         let ahead = first_bucket(key, view.counts, alpha, level + 1);
         let from = start + bucket * beta;
-        let stop = pass(view.words, view.flags, identity, from, beta);
-        let Stop::Nowhere = stop else {
-            return stop;
-        };
-        bucket = ahead;
-        start += count * beta;
-        level += 1;
+        match pass(view.words, view.flags, identity, from, beta) {
+            Stop::Hit { slot } => return Stop::Hit { slot },
+            Stop::Vacant { slot } => return Stop::Vacant { slot },
+            Stop::Nowhere => {
+                bucket = ahead;
+                start += count * beta;
+            }
+        }
     }
     Stop::Nowhere
 }

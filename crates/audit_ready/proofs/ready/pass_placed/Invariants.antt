@@ -1,10 +1,6 @@
 -- `audit_ready::ready::pass_placed` meets its contract. The invariant: no level before the present one stops the search, and its bucket is drawn. Assumes nothing.
-use Prim.Native.Nat.{◌-◌}
 use Rattle.funnel.specs.StopLaws.{LevelsPassed}
 use Rattle.audit_ready.proofs.ready.pass_placed.Given as goal
 
 abbrev pub invariant-loop-level : goal.invariant-loop-level
 invariant-loop-level g l = LevelsPassed l.table l.counts (g.E.Stored.words l.words) l.marks l.identity l.key l.level l.start l.bucket
-
-abbrev pub decreases-loop-level : goal.decreases-loop-level
-decreases-loop-level g l = l.alpha - l.level

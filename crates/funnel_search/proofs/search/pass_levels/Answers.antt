@@ -38,13 +38,16 @@ overflow_add-from g c = let v = c.args.view.now.valid in
     let r = passed_room _ _ _ _ _ _ v (record { is_inner = c.funnel_key-key.ensures.0; is_outer = c.funnel_key-key.ensures.1 }) c.loop-level.invariant c.loop-level-test.true (omega (arith, c.if-count-bucket.false)) in
     let f = plan_facts v.planned in omega arith
 
-pub pass-stop-requires : goal.pass-stop-requires
-pass-stop-requires g c = let v = c.args.view.now.valid in
+pub pass-requires : goal.pass-requires
+pass-requires g c = let v = c.args.view.now.valid in
     let r = passed_room _ _ _ _ _ _ v (record { is_inner = c.funnel_key-key.ensures.0; is_outer = c.funnel_key-key.ensures.1 }) c.loop-level.invariant c.loop-level-test.true (omega (arith, c.if-count-bucket.false)) in
     let f = plan_facts v.planned in (omega arith, omega arith, omega arith)
 
-pub returns-in_default : goal.returns-in_default
-returns-in_default g c = passed_stops _ _ _ _ _ _ c.args.view.now.valid (record { is_inner = c.funnel_key-key.ensures.0; is_outer = c.funnel_key-key.ensures.1 }) c.loop-level.invariant c.loop-level-test.true (omega (arith, c.if-count-bucket.false)) _ c.pass-stop.ensures
+pub returns-in-Hit : goal.returns-in-Hit
+returns-in-Hit g c = passed_stops _ _ _ _ _ _ c.args.view.now.valid (record { is_inner = c.funnel_key-key.ensures.0; is_outer = c.funnel_key-key.ensures.1 }) c.loop-level.invariant c.loop-level-test.true (omega (arith, c.if-count-bucket.false)) _ (subst (BucketStops _ _ _ _ _) c.in-Hit.is c.pass.ensures)
+
+pub returns-in-Vacant : goal.returns-in-Vacant
+returns-in-Vacant g c = passed_stops _ _ _ _ _ _ c.args.view.now.valid (record { is_inner = c.funnel_key-key.ensures.0; is_outer = c.funnel_key-key.ensures.1 }) c.loop-level.invariant c.loop-level-test.true (omega (arith, c.if-count-bucket.false)) _ (subst (BucketStops _ _ _ _ _) c.in-Vacant.is c.pass.ensures)
 
 pub overflow_mul-start : goal.overflow_mul-start
 overflow_mul-start g c = let v = c.args.view.now.valid in let r = level_room v.planned _ c.loop-level-test.true in let f = plan_facts v.planned in omega arith
@@ -52,15 +55,9 @@ overflow_mul-start g c = let v = c.args.view.now.valid in let r = level_room v.p
 pub overflow_add-start : goal.overflow_add-start
 overflow_add-start g c = let v = c.args.view.now.valid in let r = level_room v.planned _ c.loop-level-test.true in let f = plan_facts v.planned in let s = c.loop-level.invariant.starts in omega arith
 
-pub overflow_add-level-in-loop-level : goal.overflow_add-level-in-loop-level
-overflow_add-level-in-loop-level g c = let f = plan_facts c.args.view.now.valid.planned in let l = c.loop-level-test.true in omega arith
-
-pub loop-level-smaller : goal.loop-level-smaller
-loop-level-smaller g c = let l = c.loop-level-test.true in omega arith
-
 pub loop-level-preserved : goal.loop-level-preserved
 loop-level-preserved g c = passed_more _ _ _ _ _ _ c.args.view.now.valid (record { is_inner = c.funnel_key-key.ensures.0; is_outer = c.funnel_key-key.ensures.1 }) c.loop-level.invariant c.loop-level-test.true (omega (arith, c.if-count-bucket.false)) _
-    (subst (BucketStops _ _ _ _ _) c.in-Nowhere.is c.pass-stop.ensures) c.first_bucket-ahead.ensures
+    (subst (BucketStops _ _ _ _ _) c.in-Nowhere.is c.pass.ensures) c.first_bucket-ahead.ensures
 
 pub returns : goal.returns
 unfolding StopsAt

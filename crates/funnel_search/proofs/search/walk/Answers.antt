@@ -56,12 +56,6 @@ overflow_mul-start g c = let v = c.args.sought.now.view.now.valid in let r = lev
 pub overflow_add-start : goal.overflow_add-start
 overflow_add-start g c = let v = c.args.sought.now.view.now.valid in let r = level_room v.planned _ c.loop-level-test.true in let f = plan_facts v.planned in let s = c.loop-level.invariant.starts in omega arith
 
-pub overflow_add-level-in-Nowhere : goal.overflow_add-level-in-Nowhere
-overflow_add-level-in-Nowhere g c = let f = plan_facts c.args.sought.now.view.now.valid.planned in let l = c.loop-level-test.true in omega arith
-
-pub loop-level-smaller : goal.loop-level-smaller
-loop-level-smaller g c = let l = c.loop-level-test.true in omega arith
-
 pub loop-level-preserved : goal.loop-level-preserved
 loop-level-preserved g c = passed_more _ _ _ _ _ _ c.args.sought.now.view.now.valid c.args.sought.now.keyed c.loop-level.invariant c.loop-level-test.true (omega (arith, c.if-count-bucket.false)) _
     (halts_nowhere _ _ _ _ _ _ c.halt.ensures c.in-Nowhere.is) c.first_bucket-ahead.ensures
