@@ -16,7 +16,7 @@
 // in the ordinary marks (crate `waiting`), which are made again from the order at the end. That the answer means what it should
 // (accepted exactly if some order makes the image) is proved in the crate `demand`, over the definitions alone.
 //
-// Words and order are lent as numbers or as bytes: each function takes both slices, and in last place which of them counts (crate `lent`).
+// Words and order are lent as numbers or as bytes: each function is written over the element that both are stored in (crate `lent`).
 //
 // Here are the definitions, the verdicts and what looks at slots one by one. Whether a slot is ready is in `audit_ready`, the turns in the special part in
 // `audit_special`, the passes over all slots in `audit_pass`, the public call in `audit_calls`.

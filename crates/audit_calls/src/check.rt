@@ -29,8 +29,9 @@ impl From<Gate> for CheckRefusal {
     }
 }
 
-// The check of an image: how many members were placed, where all were. Marks and order are lent, n entries each. It leaves 1 in the marks of the placed slots and 0 in the others,
-// and the placed slots in the order they were taken, first in `order`; a refusal other than DISORDER writes nothing.
+// The check of an image: how many members were placed, where all were. Marks and order are lent, n entries each. It leaves 1 in the marks of the
+// placed slots and 0 in the others, and the placed slots in the order they were taken, first in `order`; a refusal other than DISORDER writes
+// nothing.
 pub fn check(
     table: FunnelTable,
     counts: &[u64; 118],

@@ -3,7 +3,7 @@
 // public calls are in `funnel_calls`: a crate is proved as a whole, so each part is a crate.
 //
 // A table is a small state by value, with the counts of its levels, n words and n flags lent beside it. Its slots lie side
-// by side. Words are lent as numbers or as bytes, in one of two slices (`lent`, store.rt); every walk is written once for both.
+// by side. Words are lent as numbers or as bytes; every walk is written once, over the element that they are stored in (`lent`, store.rt).
 //
 //     0          start of level k                    n - s                   n - floor(s/2)          n
 //     | level 0 | .. | count_k buckets of beta | .. | primary, ceil(s/2)    | buckets of width 2g   |

@@ -56,13 +56,7 @@ pub fn halted(halt: Halt, level: u64, bucket: u64, from: u64, w: u64, probes: u6
 
 // Where a bucket of w slots stops a search, for an even w: two slots a turn, no place and no count of probes. The loop holds an index and
 // no slot, so that it needs few registers. It counts the index itself: over a range of pairs it was tried, and searches took 4 % longer.
-pub fn halt<E: Stored>(
-    words: &[E],
-    flags: &[u8],
-    identity: u64,
-    from: u64,
-    w: u64,
-) -> Halt
+pub fn halt<E: Stored>(words: &[E], flags: &[u8], identity: u64, from: u64, w: u64) -> Halt
     requires { (from + w ≤ length (E.words words.now)) × (from + w ≤ length flags.now) × (w % 2 ≡ 0) }
     ensures { Halts (E.words words.now) flags.now identity from w result }
 {
@@ -88,13 +82,7 @@ pub fn halt<E: Stored>(
 }
 
 // The same by the slot.
-pub fn pass<E: Stored>(
-    words: &[E],
-    flags: &[u8],
-    identity: u64,
-    from: u64,
-    w: u64,
-) -> Stop
+pub fn pass<E: Stored>(words: &[E], flags: &[u8], identity: u64, from: u64, w: u64) -> Stop
     requires { (from + w ≤ length (E.words words.now)) × (from + w ≤ length flags.now) × (w % 2 ≡ 0) }
     ensures { BucketStops (E.words words.now) flags.now identity from w result }
 {

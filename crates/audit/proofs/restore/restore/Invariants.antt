@@ -1,5 +1,4 @@
 -- `audit::restore::restore` meets its contract. Assumes nothing.
-use Prim.Native.Nat.{◌≤◌}
 use mathlib.Core.Path.{◌≡◌}
 use lib.ListN.{length}
 use Rattle.audit.specs.Marked.{marks_of}

@@ -1,4 +1,3 @@
-use native.Mathlib.Omega.{arith}
 use mathlib.Core.Path.{◌∙◌}
 use Rattle.audit.specs.FirstLaws.{passed_none, passed_at, passed_more, passed_end, from_zero}
 use Rattle.audit.specs.ReadyLaws.{unplaced_yes, unplaced_vacant, unplaced_marked}

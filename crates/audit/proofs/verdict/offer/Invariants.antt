@@ -1,5 +1,5 @@
 -- `audit::verdict::offer` meets its contract. Assumes nothing.
-use Prim.Native.Nat.{◌+◌, ◌≤◌}
+use Prim.Native.Nat.{◌+◌}
 use mathlib.Core.Path.{◌≡◌}
 use lib.ListN.{length}
 use Rattle.audit.specs.Verdicts.{Offered}
