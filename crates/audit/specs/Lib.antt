@@ -10,5 +10,6 @@ pub mod Special
 pub mod SpecialLaws
 pub mod VerdictLaws
 pub mod Verdicts
+pub mod Viewed
 pub mod Waits
 pub mod WaitsLaws

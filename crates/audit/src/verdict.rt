@@ -2,32 +2,25 @@
 // last time: only a member whose search goes on past it can ever be ready. Those are queued in the ordinary marks, since the searches
 // along the special slots do not read these.
 ghost use Rattle.std.specs.Prelude.{◌≡◌, ◌+◌, ◌≤◌, ◌<◌, length};
-ghost use Rattle.audit.specs.Special.{live};
 ghost use Rattle.audit.specs.Verdicts.{Judged, Offered};
-ghost use Rattle.funnel.specs.Path.{primary_start};
-ghost use Rattle.funnel.specs.Valid.{Valid};
+ghost use Rattle.audit.specs.Viewed.{live_in};
+ghost use Rattle.funnel.specs.Viewed.{slots_in, special_in};
 ghost use Rattle.waiting.specs.Links.{space};
 
-use funnel::table::{FunnelTable, Search};
+use funnel::table::Search;
+use funnel::view::View;
 use funnel_search::search::find_ordinary;
 use lent::store::Stored;
 use queue::keep::add;
 use waiting::chain::clear;
 
 // Gives a verdict on each special slot, in its own mark: 1 for a slot that is live.
-pub fn judge<E: Stored>(
-    table: FunnelTable,
-    counts: &[u64; 118],
-    words: &[E],
-    flags: &[u8],
-    marks: &mut [u8],
-    start: u64,
-)
-    requires { Valid table counts.now (E.words words.now) marks.old × (length flags.now ≡ table.n) × (start ≡ primary_start table.plan counts.now) }
-    ensures { Judged (live table counts.now (E.words words.now) flags.now marks.old) start table.n marks.old marks.new }
+pub fn judge<E: Stored>(view: &View<E>, marks: &mut [u8], start: u64)
+    requires { (length marks.old ≡ slots_in view.now) × (start ≡ special_in view.now) }
+    ensures { Judged (live_in view.now marks.old) start (slots_in view.now) marks.old marks.new }
 {
-    for slot in start..table.n {
-        if is_live(table, counts, words, flags, marks, slot) {
+    for slot in start..view.table.n {
+        if is_live(view, marks, slot) {
             marks[slot as usize] = 1;
         } else {
             marks[slot as usize] = 0;
@@ -36,23 +29,21 @@ pub fn judge<E: Stored>(
 }
 
 // Whether a slot is occupied, and its identity's search goes on past the ordinary slots.
-fn is_live<E: Stored>(
-    table: FunnelTable,
-    counts: &[u64; 118],
-    words: &[E],
-    flags: &[u8],
-    marks: &[u8],
-    slot: u64,
-) -> bool
-    requires { Valid table counts.now (E.words words.now) marks.now × (length flags.now ≡ table.n) × (slot < table.n) }
-    ensures { result ≡ live table counts.now (E.words words.now) flags.now marks.now slot }
+fn is_live<E: Stored>(view: &View<E>, marks: &[u8], slot: u64) -> bool
+    requires { (length marks.now ≡ slots_in view.now) × (slot < slots_in view.now) }
+    ensures { result ≡ live_in view.now marks.now slot }
 {
-    let s = slot as usize;
-    if flags[s] == 0 {
+    if view.flags[slot as usize] == 0 {
         return false;
     }
-    let identity = E::word(words, slot);
-    match find_ordinary(table, counts, words, marks, identity) {
+    let identity = E::word(view.words, slot);
+    let part = View {
+        table: view.table,
+        counts: view.counts,
+        words: view.words,
+        flags: marks,
+    };
+    match find_ordinary(&part, identity) {
         Search::Full { .. } => true,
         Search::Vacant { .. } | Search::Hit { .. } | Search::Range(_) => false,
     }

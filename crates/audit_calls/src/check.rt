@@ -2,11 +2,12 @@
 ghost use Rattle.std.specs.Prelude.{◌≡◌, length};
 ghost use Rattle.audit_calls.specs.declared.check.CheckRefusal.TheVariants.{Gate};
 ghost use Rattle.audit_calls.specs.Check.{ended, take_all, audit_of, check_gate, check_of};
-ghost use Rattle.funnel.specs.Valid.{Valid};
+ghost use Rattle.funnel.specs.Viewed.{slots_in};
 
 use audit::slots::{first_dirty, first_unplaced};
 use audit_pass::pass::take_members;
 use funnel::table::FunnelTable;
+use funnel::view::View;
 use funnel_calls::calls::table_gate;
 use lent::store::Stored;
 use refusal::Gate;
@@ -49,7 +50,13 @@ pub fn check(
         marks.len() as u64,
         order.len() as u64,
     )?;
-    audit(table, counts, words, flags, marks, order)
+    let view = View {
+        table: &table,
+        counts,
+        words,
+        flags,
+    };
+    audit(&view, marks, order)
 }
 
 // The tests 1 to 7, with the lengths of the two lent buffers.
@@ -72,36 +79,30 @@ pub fn check_gate(
 
 // The check of a state that passed.
 pub fn audit<E: Stored>(
-    table: FunnelTable,
-    counts: &[u64; 118],
-    words: &[E],
-    flags: &[u8],
+    view: &View<E>,
     marks: &mut [u8],
     order: &mut [E],
 ) -> Result<u64, CheckRefusal>
-    requires { Valid table counts.now (E.words words.now) flags.now × (length marks.old ≡ table.n) × (length (E.words order.old) ≡ table.n) }
-    ensures { ended result marks.new (E.words order.new) ≡ audit_of table counts.now (E.words words.now) flags.now marks.old (E.words order.old) }
+    requires { (length marks.old ≡ slots_in view.now) × (length (E.words order.old) ≡ slots_in view.now) }
+    ensures { ended result marks.new (E.words order.new) ≡ audit_of view.now.table.now view.now.counts.now (E.words view.now.words.now) view.now.flags.now marks.old (E.words order.old) }
 {
-    if let Some(slot) = first_dirty(words, flags, table.n) {
+    if let Some(slot) = first_dirty(view.words, view.flags, view.table.n) {
         return Err(CheckRefusal::Dirty { slot });
     }
-    place_members(table, counts, words, flags, marks, order)
+    place_members(view, marks, order)
 }
 
 // The check of an image that has no dirty slot.
 fn place_members<E: Stored>(
-    table: FunnelTable,
-    counts: &[u64; 118],
-    words: &[E],
-    flags: &[u8],
+    view: &View<E>,
     marks: &mut [u8],
     order: &mut [E],
 ) -> Result<u64, CheckRefusal>
-    requires { Valid table counts.now (E.words words.now) flags.now × (length marks.old ≡ table.n) × (length (E.words order.old) ≡ table.n) }
-    ensures { ended result marks.new (E.words order.new) ≡ take_all table counts.now (E.words words.now) flags.now (E.words order.old) }
+    requires { (length marks.old ≡ slots_in view.now) × (length (E.words order.old) ≡ slots_in view.now) }
+    ensures { ended result marks.new (E.words order.new) ≡ take_all view.now.table.now view.now.counts.now (E.words view.now.words.now) view.now.flags.now (E.words order.old) }
 {
-    let placed = take_members(table, counts, words, flags, marks, order);
-    match first_unplaced(flags, marks, table.n) {
+    let placed = take_members(view, marks, order);
+    match first_unplaced(view.flags, marks, view.table.n) {
         Some(slot) => Err(CheckRefusal::Disorder { placed, slot }),
         None => Ok(placed),
     }

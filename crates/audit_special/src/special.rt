@@ -7,9 +7,11 @@ ghost use Rattle.audit.specs.Waits.{special_end, vacancy_of, Begun, Finished, Ch
 ghost use Rattle.funnel.specs.Path.{primary_start};
 ghost use Rattle.funnel.specs.Search.{search_of};
 ghost use Rattle.funnel.specs.Valid.{Valid};
+ghost use Rattle.funnel.specs.Viewed.{slots_in, special_in};
 ghost use Rattle.waiting.specs.Links.{Fits};
 
 use funnel::table::{FunnelTable, Search, slot_of};
+use funnel::view::View;
 use funnel_stages::stages::{search_fallback, search_primary};
 use lent::store::Stored;
 use probe::word::funnel_key;
@@ -19,7 +21,7 @@ use waiting::chain::{file, wake};
 // Takes the smallest ready slot of the special part, which starts at `start`, again and again: how many are placed then. The ordinary
 // marks hold the candidates and those that wait.
 pub fn take_live<E: Stored>(
-    table: FunnelTable,
+    table: &FunnelTable,
     counts: &[u64; 118],
     words: &[E],
     flags: &[u8],
@@ -28,8 +30,8 @@ pub fn take_live<E: Stored>(
     start: u64,
     before: u64,
 ) -> u64
-    requires { Valid table counts.now (E.words words.now) marks.old × (start ≡ primary_start table.plan counts.now) × Begun table counts.now (E.words words.now) flags.now start table.plan.special_len marks.old (E.words order.old) before }
-    ensures { Finished table counts.now (E.words words.now) flags.now start table.plan.special_len marks.old (E.words order.old) before (E.words order.new) result }
+    requires { Valid table.now counts.now (E.words words.now) marks.old × (start ≡ primary_start table.now.plan counts.now) × Begun table.now counts.now (E.words words.now) flags.now start table.now.plan.special_len marks.old (E.words order.old) before }
+    ensures { Finished table.now counts.now (E.words words.now) flags.now start table.now.plan.special_len marks.old (E.words order.old) before (E.words order.new) result }
 {
     let n = table.n;
     let m = table.plan.special_len;
@@ -51,15 +53,15 @@ pub fn take_live<E: Stored>(
 
 // The smallest candidate that is ready. Those before it are candidates no longer: they are filed, or can never be ready.
 fn next_live<E: Stored>(
-    table: FunnelTable,
+    table: &FunnelTable,
     counts: &[u64; 118],
     words: &[E],
     marks: &mut [u8],
     placed: u64,
     start: u64,
 ) -> Option<u64>
-    requires { Valid table counts.now (E.words words.now) marks.old × (start ≡ primary_start table.plan counts.now) × Fits marks.old table.plan.special_len }
-    ensures { Turned table (E.words words.now) start table.plan.special_len marks.old marks.new × Chosen table (E.words words.now) start table.plan.special_len placed marks.old marks.new result }
+    requires { Valid table.now counts.now (E.words words.now) marks.old × (start ≡ primary_start table.now.plan counts.now) × Fits marks.old table.now.plan.special_len }
+    ensures { Turned table.now (E.words words.now) start table.now.plan.special_len marks.old marks.new × Chosen table.now (E.words words.now) start table.now.plan.special_len placed marks.old marks.new result }
 {
     if table.plan.maximum <= placed {
         return None;
@@ -67,7 +69,13 @@ fn next_live<E: Stored>(
     let m = table.plan.special_len;
     while let Some(number) = smallest(marks, 8 * m, m) {
         let slot = start + number;
-        match vacancy(table, counts, words, marks, start, slot) {
+        let part = View {
+            table,
+            counts,
+            words,
+            flags: marks,
+        };
+        match vacancy(&part, start, slot) {
             None => remove(marks, 8 * m, m, number),
             Some(end) => {
                 if end == slot {
@@ -81,38 +89,25 @@ fn next_live<E: Stored>(
 }
 
 // The slot at which the search of a special slot's identity along the special slots ends vacant.
-fn vacancy<E: Stored>(
-    table: FunnelTable,
-    counts: &[u64; 118],
-    words: &[E],
-    marks: &[u8],
-    start: u64,
-    slot: u64,
-) -> Option<u64>
-    requires { Valid table counts.now (E.words words.now) marks.now × (start ≡ primary_start table.plan counts.now) × (slot < table.n) }
-    ensures { result ≡ vacancy_of (special_end table (E.words words.now) marks.now start slot) }
+fn vacancy<E: Stored>(part: &View<E>, start: u64, slot: u64) -> Option<u64>
+    requires { (start ≡ special_in part.now) × (slot < slots_in part.now) }
+    ensures { result ≡ vacancy_of (special_end part.now.table.now (E.words part.now.words.now) part.now.flags.now start slot) }
 {
-    let identity = E::word(words, slot);
-    match find_special(table, counts, words, marks, start, identity) {
+    let identity = E::word(part.words, slot);
+    match find_special(part, start, identity) {
         Search::Vacant { place, .. } => Some(slot_of(place)),
         Search::Hit { .. } | Search::Full { .. } | Search::Range(_) => None,
     }
 }
 
 // The search for an identity along the special slots alone, with no probe made before.
-fn find_special<E: Stored>(
-    table: FunnelTable,
-    counts: &[u64; 118],
-    words: &[E],
-    marks: &[u8],
-    start: u64,
-    identity: u64,
-) -> Search
-    requires { Valid table counts.now (E.words words.now) marks.now × (start ≡ primary_start table.plan counts.now) }
-    ensures { result ≡ search_of (E.words words.now) marks.now identity (special_path table start identity) 0 }
+fn find_special<E: Stored>(part: &View<E>, start: u64, identity: u64) -> Search
+    requires { start ≡ special_in part.now }
+    ensures { result ≡ search_of (E.words part.now.words.now) part.now.flags.now identity (special_path part.now.table.now start identity) 0 }
 {
+    let table = part.table;
     let key = funnel_key(table.seed, identity);
-    let primary = search_primary(table, start, words, marks, identity, key, 0);
+    let primary = search_primary(table, start, part.words, part.flags, identity, key, 0);
     let Search::Full { probes } = primary else {
         return primary;
     };
@@ -120,8 +115,8 @@ fn find_special<E: Stored>(
     search_fallback(
         table,
         fallback_start,
-        words,
-        marks,
+        part.words,
+        part.flags,
         identity,
         key,
         probes,

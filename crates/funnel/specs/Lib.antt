@@ -20,7 +20,9 @@ pub mod StageLaws
 pub mod Stop
 pub mod StopLaws
 pub mod Valid
+pub mod Viewed
 pub mod ValidLent
+pub mod ValidProp
 pub mod Ranked
 pub mod ReportLaws
 pub mod EdgeLaws

@@ -14,6 +14,7 @@
 // A draw that is refused ends the path, and the search with it.
 //
 //     table.rt      the state, and what the calls answer
+//     view.rt       a valid table that is lent to be read
 //     scan.rt       walks over slots, the only readers of the buffers
 //
 // specs/Path.antt says what a path is, Search.antt and Insert.antt what a search and an insertion are, Calls.antt what the
@@ -23,3 +24,4 @@
 
 pub mod scan;
 pub mod table;
+pub mod view;

@@ -3,6 +3,7 @@ ghost use Rattle.std.specs.Prelude.{List, ◌≡◌, length, replicate, Ok};
 ghost use Rattle.funnel.specs.Calls.{limits_then, lengths_then, table_gate, open_gate, place_gate, Opens, search_answer_of, insertions, insert_answer_of, placements, place_answer_of};
 
 use funnel::table::{FunnelTable, PlacedAll, Search, Step};
+use funnel::view::View;
 use funnel_search::search::find;
 use geometry_funnel::plan::{funnel_gate, funnel_plan, is_funnel_plan};
 use refusal::Gate;
@@ -48,7 +49,13 @@ pub fn search(
     ensures { result ≡ search_answer_of table counts.now words.now flags.now identity }
 {
     table_gate(table, counts, words.len() as u64, flags.len() as u64)?;
-    Ok(find(table, counts, words, flags, identity))
+    let view = View {
+        table: &table,
+        counts,
+        words,
+        flags,
+    };
+    Ok(find(&view, identity))
 }
 
 // The insertion of an identity.
@@ -84,13 +91,16 @@ pub fn place_all(
         identities.len() as u64,
         slots.len() as u64,
     )?;
-    Ok(funnel_place::place_all::place_all(
-        table, counts, words, flags, identities, slots,
-    ))
+    Ok(funnel_place::place_all::place_all(table, counts, words, flags, identities, slots))
 }
 
 // The tests 1 to 7 of a table. Where the plan is right, n and e have a layout, so only a wrong plan pays for that test.
-pub fn table_gate(table: FunnelTable, counts: &[u64; 118], words: u64, flags: u64) -> Result<(), Gate>
+pub fn table_gate(
+    table: FunnelTable,
+    counts: &[u64; 118],
+    words: u64,
+    flags: u64,
+) -> Result<(), Gate>
     ensures { result ≡ table_gate table counts.now words flags }
 {
     if is_funnel_plan(table.n, table.e, table.plan, counts) {

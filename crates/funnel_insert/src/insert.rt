@@ -4,6 +4,7 @@ ghost use Rattle.funnel.specs.Insert.{done, with_count, stepped, insert_of};
 ghost use Rattle.funnel.specs.Valid.{Valid};
 
 use funnel::table::{FunnelTable, InsertRefusal, Reached, Search, Step, slot_of};
+use funnel::view::View;
 use funnel_search::search::find;
 use lent::store::Stored;
 
@@ -44,7 +45,13 @@ pub fn put<E: Stored>(
     ensures { done result (stepped result (with_count table count)) (E.words words.new) flags.new ≡ insert_of (with_count table count) counts.now (E.words words.old) flags.old identity }
 {
     let maximum = table.plan.maximum;
-    match find(table, counts, words, flags, identity) {
+    let view = View {
+        table: &table,
+        counts,
+        words,
+        flags,
+    };
+    match find(&view, identity) {
         Search::Hit { probes, place } => Err(InsertRefusal::Duplicate { probes, place }),
         Search::Range(refusal) => Err(InsertRefusal::Range(refusal)),
         Search::Full { probes } => {

@@ -4,8 +4,10 @@ ghost use Rattle.funnel.specs.Insert.{with_count, settled_of, Settles, placed, p
 ghost use Rattle.funnel.specs.Valid.{Valid};
 
 use funnel::table::{
-    FunnelTable, InsertRefusal, PlaceRefusal, PlacedAll, Reached, Settled, Stop, slot_of, with_count,
+    FunnelTable, InsertRefusal, PlaceRefusal, PlacedAll, Reached, Settled, Stop, slot_of,
+    with_count,
 };
+use funnel::view::View;
 use funnel_insert::insert::put;
 use funnel_search::search::pass_levels;
 use lent::store::Stored;
@@ -64,24 +66,24 @@ fn settle<E: Stored>(
     ensures { Settles (with_count table count) counts.now (E.words words.old) flags.old identity index result (E.words words.new) flags.new }
 {
     let maximum = table.plan.maximum;
-    match pass_levels(table, counts, words, flags, identity) {
+    let view = View {
+        table: &table,
+        counts,
+        words,
+        flags,
+    };
+    match pass_levels(&view, identity) {
         Stop::Hit { slot } => Ok(Settled::There { slot }),
         Stop::Vacant { slot } => {
             if maximum <= count {
-                return settled(
-                    put(table, count, counts, words, flags, identity),
-                    index,
-                );
+                return settled(put(table, count, counts, words, flags, identity), index);
             }
             E::put(words, slot, identity);
             let at = slot as usize;
             flags[at] = 1;
             Ok(Settled::Put { slot })
         }
-        Stop::Nowhere => settled(
-            put(table, count, counts, words, flags, identity),
-            index,
-        ),
+        Stop::Nowhere => settled(put(table, count, counts, words, flags, identity), index),
     }
 }
 

@@ -1,13 +1,12 @@
 // The search for an identity: along all of its path, and the levels alone by their first words.
 ghost use Rattle.std.specs.Prelude.{◌≡◌, ℕ, ◌≤◌, ◌<◌, get_or};
-ghost use Rattle.funnel.specs.Path.{levels_from};
-ghost use Rattle.funnel.specs.Search.{search_of, find_of};
 ghost use Rattle.funnel.specs.Stop.{StopsAt, WalksTo, FirstAhead};
 ghost use Rattle.funnel.specs.declared.table.Search.TheVariants.{Full};
-ghost use Rattle.funnel.specs.Valid.{Valid, Keyed};
+ghost use Rattle.funnel.specs.Viewed.{find_in, levels_in, found_for, levels_for};
 
 use funnel::scan::{halt, halted, pass};
-use funnel::table::{FunnelTable, Halt, Search, Stop, Walk};
+use funnel::table::{Halt, Search, Stop, Walk};
+use funnel::view::{Sought, View};
 use funnel_stages::stages::{search_fallback, search_levels, search_primary};
 use lent::store::Stored;
 use probe::counter::{Domain, funnel_base};
@@ -16,111 +15,72 @@ use probe::word::{FunnelKey, funnel_key};
 use words::place::LogicalProbe;
 
 // The search for an identity in a valid table. Nearly always the walk settles it, or leads past the levels; the stages that may take
-// further words are calls, and get copies of the table and of the slices, so that these stay in registers.
-pub fn find<E: Stored>(
-    table: FunnelTable,
-    counts: &[u64; 118],
-    words: &[E],
-    flags: &[u8],
-    identity: u64,
-) -> Search
-    requires { Valid table counts.now (E.words words.now) flags.now }
-    ensures { result ≡ find_of table counts.now (E.words words.now) flags.now identity }
+// further words are calls, so that what the walk reads stays in registers.
+pub fn find<E: Stored>(view: &View<E>, identity: u64) -> Search
+    ensures { result ≡ find_in view.now identity }
 {
-    let key = funnel_key(table.seed, identity);
-    match walk(table, counts, words, flags, identity, key) {
+    let key = funnel_key(view.table.seed, identity);
+    let sought = Sought {
+        view,
+        identity,
+        key,
+    };
+    let beta = view.table.plan.beta;
+    match walk(&sought) {
         Walk::Hit(level, bucket, from, index) => {
-            let beta = table.plan.beta;
             halted(Halt::Hit { index }, level, bucket, from, beta, level * beta)
         }
-        Walk::Vacant(level, bucket, from, index) => {
-            let beta = table.plan.beta;
-            halted(
-                Halt::Vacant { index },
-                level,
-                bucket,
-                from,
-                beta,
-                level * beta,
-            )
-        }
-        Walk::Past => {
-            let rest = table;
-            let rest_words = words;
-            let rest_flags = flags;
-            let probes = rest.plan.alpha * rest.plan.beta;
-            search_special(
-                rest, counts, rest_words, rest_flags, identity, key, probes,
-            )
-        }
-        Walk::Unsettled => {
-            let rest = table;
-            let rest_words = words;
-            let rest_flags = flags;
-            find_drawn(
-                rest, counts, rest_words, rest_flags, identity, key,
-            )
-        }
+        Walk::Vacant(level, bucket, from, index) => halted(
+            Halt::Vacant { index },
+            level,
+            bucket,
+            from,
+            beta,
+            level * beta,
+        ),
+        Walk::Past => search_special(&sought, view.table.plan.alpha * beta),
+        Walk::Unsettled => find_drawn(&sought),
     }
 }
 
 // The search along the ordinary part of an identity's path alone.
-pub fn find_ordinary<E: Stored>(
-    table: FunnelTable,
-    counts: &[u64; 118],
-    words: &[E],
-    flags: &[u8],
-    identity: u64,
-) -> Search
-    requires { Valid table counts.now (E.words words.now) flags.now }
-    ensures { result ≡ search_of (E.words words.now) flags.now identity (levels_from table.plan counts.now table.seed table.word_cap identity 0 table.plan.alpha) 0 }
+pub fn find_ordinary<E: Stored>(view: &View<E>, identity: u64) -> Search
+    ensures { result ≡ levels_in view.now identity }
 {
-    let key = funnel_key(table.seed, identity);
-    search_levels(table, counts, words, flags, identity, key)
+    let key = funnel_key(view.table.seed, identity);
+    search_levels(&Sought {
+        view,
+        identity,
+        key,
+    })
 }
 
 // The search by draws that can take further words.
-fn find_drawn<E: Stored>(
-    table: FunnelTable,
-    counts: &[u64; 118],
-    words: &[E],
-    flags: &[u8],
-    identity: u64,
-    key: FunnelKey,
-) -> Search
-    requires { Valid table counts.now (E.words words.now) flags.now × Keyed table.seed identity key }
-    ensures { result ≡ find_of table counts.now (E.words words.now) flags.now identity }
+fn find_drawn<E: Stored>(sought: &Sought<E>) -> Search
+    ensures { result ≡ found_for sought.now }
 {
-    let ordinary = search_levels(table, counts, words, flags, identity, key);
+    let ordinary = search_levels(sought);
     let Search::Full { probes: read } = ordinary else {
         return ordinary;
     };
-    search_special(
-        table, counts, words, flags, identity, key, read,
-    )
+    search_special(sought, read)
 }
 
 // The search where the ordinary part of the path met neither the identity nor a vacancy.
-fn search_special<E: Stored>(
-    table: FunnelTable,
-    counts: &[u64; 118],
-    words: &[E],
-    flags: &[u8],
-    identity: u64,
-    key: FunnelKey,
-    probes: u64,
-) -> Search
-    requires { Valid table counts.now (E.words words.now) flags.now × Keyed table.seed identity key × (search_of (E.words words.now) flags.now identity (levels_from table.plan counts.now table.seed table.word_cap identity 0 table.plan.alpha) 0 ≡ Full probes) }
-    ensures { result ≡ find_of table counts.now (E.words words.now) flags.now identity }
+fn search_special<E: Stored>(sought: &Sought<E>, probes: u64) -> Search
+    requires { levels_for sought.now ≡ Full probes }
+    ensures { result ≡ found_for sought.now }
 {
+    let view = sought.view;
+    let table = view.table;
     let primary_start = table.n - table.plan.special_len;
     let primary = search_primary(
         table,
         primary_start,
-        words,
-        flags,
-        identity,
-        key,
+        view.words,
+        view.flags,
+        sought.identity,
+        sought.key,
         probes,
     );
     let Search::Full { probes: more } = primary else {
@@ -130,37 +90,34 @@ fn search_special<E: Stored>(
     search_fallback(
         table,
         fallback_start,
-        words,
-        flags,
-        identity,
-        key,
+        view.words,
+        view.flags,
+        sought.identity,
+        sought.key,
         more,
     )
 }
 
 // The levels by first words, as `pass_levels` walks them, with the numbers of a place.
-fn walk<E: Stored>(
-    table: FunnelTable,
-    counts: &[u64; 118],
-    words: &[E],
-    flags: &[u8],
-    identity: u64,
-    key: FunnelKey,
-) -> Walk
-    requires { Valid table counts.now (E.words words.now) flags.now × Keyed table.seed identity key }
-    ensures { WalksTo table.plan.alpha table.plan.beta result (search_of (E.words words.now) flags.now identity (levels_from table.plan counts.now table.seed table.word_cap identity 0 table.plan.alpha) 0) }
+fn walk<E: Stored>(sought: &Sought<E>) -> Walk
+    ensures { WalksTo sought.now.view.now.table.now.plan.alpha sought.now.view.now.table.now.plan.beta result (levels_for sought.now) }
 {
-    let alpha = table.plan.alpha;
-    let beta = table.plan.beta;
+    let view = sought.view;
+    let words = view.words;
+    let flags = view.flags;
+    let identity = sought.identity;
+    let key = sought.key;
+    let alpha = view.table.plan.alpha;
+    let beta = view.table.plan.beta;
     let mut start = 0;
-    let mut bucket = first_bucket(key, counts, alpha, 0);
+    let mut bucket = first_bucket(key, view.counts, alpha, 0);
     for level in 0..alpha {
-        let count = counts[level as usize];
+        let count = view.counts[level as usize];
         if count <= bucket {
             return Walk::Unsettled;
         }
         // The next level's bucket is drawn before this one is read, so that it is at hand when this one is full.
-        let ahead = first_bucket(key, counts, table.plan.alpha, level + 1);
+        let ahead = first_bucket(key, view.counts, alpha, level + 1);
         let from = start + bucket * beta;
         match halt(words, flags, identity, from, beta) {
             Halt::Hit { index } => {
@@ -179,30 +136,23 @@ fn walk<E: Stored>(
 }
 
 // The slot that the levels settle a search with. What first words do not settle is left to `find`.
-pub fn pass_levels<E: Stored>(
-    table: FunnelTable,
-    counts: &[u64; 118],
-    words: &[E],
-    flags: &[u8],
-    identity: u64,
-) -> Stop
-    requires { Valid table counts.now (E.words words.now) flags.now }
-    ensures { StopsAt result (find_of table counts.now (E.words words.now) flags.now identity) (Unit {0}) }
+pub fn pass_levels<E: Stored>(view: &View<E>, identity: u64) -> Stop
+    ensures { StopsAt result (find_in view.now identity) (Unit {0}) }
 {
-    let key = funnel_key(table.seed, identity);
-    let alpha = table.plan.alpha;
-    let beta = table.plan.beta;
+    let key = funnel_key(view.table.seed, identity);
+    let alpha = view.table.plan.alpha;
+    let beta = view.table.plan.beta;
     let mut start = 0;
-    let mut bucket = first_bucket(key, counts, alpha, 0);
+    let mut bucket = first_bucket(key, view.counts, alpha, 0);
     for level in 0..alpha {
-        let count = counts[level as usize];
+        let count = view.counts[level as usize];
         if count <= bucket {
             return Stop::Nowhere;
         }
         // As in `walk`, the next level's bucket is drawn before this one is read, and each kind of stop has an arm.
-        let ahead = first_bucket(key, counts, table.plan.alpha, level + 1);
+        let ahead = first_bucket(key, view.counts, alpha, level + 1);
         let from = start + bucket * beta;
-        match pass(words, flags, identity, from, beta) {
+        match pass(view.words, view.flags, identity, from, beta) {
             Stop::Hit { slot } => return Stop::Hit { slot },
             Stop::Vacant { slot } => return Stop::Vacant { slot },
             Stop::Nowhere => {

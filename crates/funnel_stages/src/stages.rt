@@ -2,12 +2,14 @@
 ghost use Rattle.std.specs.Prelude.{◌≡◌, ◌*◌, ◌≤◌, ◌<◌, ◌^◌, length};
 ghost use Rattle.probe.specs.Counter.{level_of};
 ghost use Rattle.probe.specs.Range.{domain_draw_of};
-ghost use Rattle.funnel.specs.Path.{levels_from, primary_from, fallback_of};
+ghost use Rattle.funnel.specs.Path.{primary_from, fallback_of};
 ghost use Rattle.funnel.specs.Search.{search_of};
-ghost use Rattle.funnel.specs.Valid.{Valid, Keyed, SpecialRoom};
+ghost use Rattle.funnel.specs.Valid.{Keyed, SpecialRoom};
+ghost use Rattle.funnel.specs.Viewed.{levels_for};
 
 use funnel::scan::{read, scan, scan_pairs};
 use funnel::table::{FunnelTable, Search};
+use funnel::view::Sought;
 use lent::store::Stored;
 use probe::counter::Domain;
 use probe::range::{Index, funnel_draw};
@@ -16,29 +18,38 @@ use refusal::RangeRefusal;
 use words::place::{GlobalSlot, LogicalProbe, Place};
 
 // "per level one bucket, slots in order"
-pub fn search_levels<E: Stored>(
-    table: FunnelTable,
-    counts: &[u64; 118],
-    words: &[E],
-    flags: &[u8],
-    identity: u64,
-    key: FunnelKey,
-) -> Search
-    requires { Valid table counts.now (E.words words.now) flags.now × Keyed table.seed identity key }
-    ensures { result ≡ search_of (E.words words.now) flags.now identity (levels_from table.plan counts.now table.seed table.word_cap identity 0 table.plan.alpha) 0 }
+pub fn search_levels<E: Stored>(sought: &Sought<E>) -> Search
+    ensures { result ≡ levels_for sought.now }
 {
+    let view = sought.view;
+    let table = view.table;
     let alpha = table.plan.alpha;
     let beta = table.plan.beta;
     let mut start = 0;
     let mut probes = 0;
     for level in 0..alpha {
-        let count = counts[level as usize];
+        let count = view.counts[level as usize];
         let cap = table.word_cap;
-        match sample(key, Domain::Ordinary { level }, LogicalProbe(0), count, cap) {
+        match sample(
+            sought.key,
+            Domain::Ordinary { level },
+            LogicalProbe(0),
+            count,
+            cap,
+        ) {
             Err(refusal) => return Search::Range(refusal),
             Ok(bucket) => {
                 let from = start + bucket.index * beta;
-                let found = scan(words, flags, identity, level, bucket.index, from, beta, probes);
+                let found = scan(
+                    view.words,
+                    view.flags,
+                    sought.identity,
+                    level,
+                    bucket.index,
+                    from,
+                    beta,
+                    probes,
+                );
                 let Search::Full { probes: read } = found else {
                     return found;
                 };
@@ -52,7 +63,7 @@ pub fn search_levels<E: Stored>(
 
 // "then g primary probes", among the primary slots from `start` on, with some probes made before
 pub fn search_primary<E: Stored>(
-    table: FunnelTable,
+    table: &FunnelTable,
     start: u64,
     words: &[E],
     flags: &[u8],
@@ -60,8 +71,8 @@ pub fn search_primary<E: Stored>(
     key: FunnelKey,
     probes: u64,
 ) -> Search
-    requires { SpecialRoom table start table.plan.special_primary_len (length (E.words words.now)) (length flags.now) probes × Keyed table.seed identity key }
-    ensures { result ≡ search_of (E.words words.now) flags.now identity (primary_from table.plan start table.seed table.word_cap identity 0 table.plan.loglog_ceiling) probes }
+    requires { SpecialRoom table.now start table.now.plan.special_primary_len (length (E.words words.now)) (length flags.now) probes × Keyed table.now.seed identity key }
+    ensures { result ≡ search_of (E.words words.now) flags.now identity (primary_from table.now.plan start table.now.seed table.now.word_cap identity 0 table.now.plan.loglog_ceiling) probes }
 {
     let primary_len = table.plan.special_primary_len;
     let loglog_ceiling = table.plan.loglog_ceiling;
@@ -89,7 +100,7 @@ pub fn search_primary<E: Stored>(
 
 // "then buckets A and B both sampled, slot by slot, A before B", among the fallback buckets from `start` on
 pub fn search_fallback<E: Stored>(
-    table: FunnelTable,
+    table: &FunnelTable,
     start: u64,
     words: &[E],
     flags: &[u8],
@@ -97,8 +108,8 @@ pub fn search_fallback<E: Stored>(
     key: FunnelKey,
     probes: u64,
 ) -> Search
-    requires { SpecialRoom table start (table.plan.fallback_bucket_count * table.plan.fallback_bucket_width) (length (E.words words.now)) (length flags.now) probes × Keyed table.seed identity key }
-    ensures { result ≡ search_of (E.words words.now) flags.now identity (fallback_of table.plan start table.seed table.word_cap identity) probes }
+    requires { SpecialRoom table.now start (table.now.plan.fallback_bucket_count * table.now.plan.fallback_bucket_width) (length (E.words words.now)) (length flags.now) probes × Keyed table.now.seed identity key }
+    ensures { result ≡ search_of (E.words words.now) flags.now identity (fallback_of table.now.plan start table.now.seed table.now.word_cap identity) probes }
 {
     let buckets = table.plan.fallback_bucket_count;
     let width = table.plan.fallback_bucket_width;

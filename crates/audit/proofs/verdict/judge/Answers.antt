@@ -9,22 +9,22 @@ pub loop-slot-init : goal.loop-slot-init
 loop-slot-init g c = judged_none _ _ _
 
 pub is_live-requires : goal.is_live-requires
-is_live-requires g c = (valid_marks c.requires.0 _ (c.loop-slot.invariant.same_n ∙ c.requires.0.flags_length), c.requires.1, omega arith)
+is_live-requires g c = (c.loop-slot.invariant.same_n ∙ c.requires.0, omega arith)
 
 pub shape_of-marks : goal.shape_of-marks
 shape_of-marks g c = c.loop-slot.invariant.same_n
 
 pub returns : goal.returns
-returns g c = judged_end _ c.requires.0.planned _ _ c.requires.2 c.loop-slot.invariant _ c.loop-slot-test.false
+returns g c = judged_end _ c.args.view.now.valid.planned _ _ c.requires.1 c.loop-slot.invariant _ c.loop-slot-test.false
 
 pub bounds-marks-slot : goal.bounds-marks-slot
-bounds-marks-slot g c = let g = c.loop-slot.invariant.same_n in let h = c.requires.0.flags_length in omega arith
+bounds-marks-slot g c = let g = c.loop-slot.invariant.same_n in let h = c.requires.0 in omega arith
 
 pub bounds-marks-slot-else-is_live : goal.bounds-marks-slot-else-is_live
-bounds-marks-slot-else-is_live g c = let g = c.loop-slot.invariant.same_n in let h = c.requires.0.flags_length in omega arith
+bounds-marks-slot-else-is_live g c = let g = c.loop-slot.invariant.same_n in let h = c.requires.0 in omega arith
 
 pub loop-slot-preserved : goal.loop-slot-preserved
 loop-slot-preserved g c = elim c.if-is_live.branch [
-  | then-is_live w ↦ rw w.marks-is (judged_more c.loop-slot.invariant _ (omega arith) (let g = c.requires.0.flags_length in omega arith) (judged_bit _ c.requires.0.planned _ _ c.requires.2 c.loop-slot.invariant _ _ c.is_live.ensures w.if-is_live.true))
-  | else-is_live w ↦ rw w.marks-is (judged_more c.loop-slot.invariant _ (omega arith) (let g = c.requires.0.flags_length in omega arith) (judged_bit _ c.requires.0.planned _ _ c.requires.2 c.loop-slot.invariant _ _ c.is_live.ensures w.if-is_live.false))
+  | then-is_live w ↦ rw w.marks-is (judged_more c.loop-slot.invariant _ (omega arith) (let g = c.requires.0 in omega arith) (judged_bit _ c.args.view.now.valid.planned _ _ c.requires.1 c.loop-slot.invariant _ _ c.is_live.ensures w.if-is_live.true))
+  | else-is_live w ↦ rw w.marks-is (judged_more c.loop-slot.invariant _ (omega arith) (let g = c.requires.0 in omega arith) (judged_bit _ c.args.view.now.valid.planned _ _ c.requires.1 c.loop-slot.invariant _ _ c.is_live.ensures w.if-is_live.false))
 ]

@@ -3,4 +3,4 @@ use Rattle.funnel.specs.StopLaws.{LevelsPassed}
 use Rattle.audit_ready.proofs.ready.pass_placed.Given as goal
 
 abbrev pub invariant-loop-level : goal.invariant-loop-level
-invariant-loop-level g l = LevelsPassed l.table l.counts (g.E.Stored.words l.words) l.marks l.identity l.key l.level l.start l.bucket
+invariant-loop-level g l = LevelsPassed l.part.table.now l.part.counts.now (g.E.Stored.words l.part.words.now) l.part.flags.now l.identity l.key l.level l.start l.bucket

@@ -25,8 +25,11 @@ returns g c = (c.loop-number.invariant, chosen_none _ _ _ _ _ _ _ _ c.smallest.e
 pub overflow_add-slot : goal.overflow_add-slot
 overflow_add-slot g c = let s = smallest_below c.requires.0.planned c.requires.1 (special_room c.requires.0.planned c.requires.1) c.loop-number.invariant _ c.smallest.ensures c.in-Some.is in let r = special_room c.requires.0.planned c.requires.1 in let f = plan_facts c.requires.0.planned in omega (arith, s, r.parts, f.n_most)
 
+pub invariant_of-part : goal.invariant_of-part
+invariant_of-part g c = record { valid = valid_marks c.requires.0 _ (c.loop-number.invariant.beyond.same_n ∙ c.requires.0.flags_length) }
+
 pub vacancy-requires : goal.vacancy-requires
-vacancy-requires g c = let s = smallest_below c.requires.0.planned c.requires.1 (special_room c.requires.0.planned c.requires.1) c.loop-number.invariant _ c.smallest.ensures c.in-Some.is in let r = special_room c.requires.0.planned c.requires.1 in (valid_marks c.requires.0 _ (c.loop-number.invariant.beyond.same_n ∙ c.requires.0.flags_length), c.requires.1, omega (arith, s, r.parts))
+vacancy-requires g c = let s = smallest_below c.requires.0.planned c.requires.1 (special_room c.requires.0.planned c.requires.1) c.loop-number.invariant _ c.smallest.ensures c.in-Some.is in let r = special_room c.requires.0.planned c.requires.1 in (c.requires.1, omega (arith, s, r.parts))
 
 pub overflow_mul-m-in-None : goal.overflow_mul-m-in-None
 overflow_mul-m-in-None g c = let f = c.loop-number.invariant.fits.small in omega arith

@@ -3,8 +3,8 @@ use Rattle.std.proofs.lemmas.Result.{err_from_is_err_and}
 use Rattle.funnel.specs.CallLaws.{passed_valid, search_refused, search_passed}
 use Rattle.funnel_calls.proofs.calls.search.Goals as goal
 
-pub find-requires : goal.find-requires
-find-requires c = passed_valid _ _ _ _ _ c.table_gate.ensures c.in_ok-table_gate.was
+pub invariant_of-view : goal.invariant_of-view
+invariant_of-view c = record { valid = passed_valid _ _ _ _ _ c.table_gate.ensures c.in_ok-table_gate.was }
 
 pub returns-in_err-table_gate : goal.returns-in_err-table_gate
 returns-in_err-table_gate c =

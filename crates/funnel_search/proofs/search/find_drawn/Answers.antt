@@ -8,7 +8,7 @@ pub returns-in_default : goal.returns-in_default
 returns-in_default g c = stays _ _ _ _ _ c.in_default.not-Full ∙ sym (find_levels _ _ _ _ _ _ c.search_levels-ordinary.ensures)
 
 pub search_special-requires : goal.search_special-requires
-search_special-requires g c = (c.requires.0, c.requires.1, sym c.search_levels-ordinary.ensures ∙ c.in-Full.is)
+search_special-requires g c = sym c.search_levels-ordinary.ensures ∙ c.in-Full.is
 
 pub returns : goal.returns
 returns g c = c.search_special.ensures

@@ -3,4 +3,4 @@ use Rattle.funnel.specs.StopLaws.{LevelsPassed}
 use Rattle.funnel_search.proofs.search.pass_levels.Given as goal
 
 abbrev pub invariant-loop-level : goal.invariant-loop-level
-invariant-loop-level g l = LevelsPassed l.table l.counts (g.E.Stored.words l.words) l.flags l.identity l.key l.level l.start l.bucket
+invariant-loop-level g l = LevelsPassed l.view.table.now l.view.counts.now (g.E.Stored.words l.view.words.now) l.view.flags.now l.identity l.key l.level l.start l.bucket

@@ -7,5 +7,5 @@ use Rattle.funnel.specs.StageLaws.{LevelsLeft}
 use Rattle.funnel_stages.proofs.stages.search_levels.Given as goal
 
 abbrev pub invariant-loop-level : goal.invariant-loop-level
-invariant-loop-level g l = (l.start ≡ level_start l.table.plan l.counts l.level) × (l.probes ≤ l.level * 54)
-    × LevelsLeft l.table.plan l.counts (g.E.Stored.words l.words) l.flags l.table.seed l.table.word_cap l.identity l.level l.probes
+invariant-loop-level g l = (l.start ≡ level_start l.sought.view.now.table.now.plan l.sought.view.now.counts.now l.level) × (l.probes ≤ l.level * 54)
+    × LevelsLeft l.sought.view.now.table.now.plan l.sought.view.now.counts.now (g.E.Stored.words l.sought.view.now.words.now) l.sought.view.now.flags.now l.sought.view.now.table.now.seed l.sought.view.now.table.now.word_cap l.sought.identity l.level l.probes
