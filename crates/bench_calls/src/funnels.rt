@@ -1,8 +1,8 @@
 // Funnel tables, whose numbers travel as n, e, seed, word cap, count and the plan.
-ghost use Rattle.funnel.specs.Valid.{Valid};
 
 use crate::put_plan;
 use funnel::table::{FunnelTable, Search};
+use funnel::view::View;
 use funnel_calls::calls::{insert, open, place_all, table_gate};
 use funnel_search::search::find;
 use geometry::funnel::FunnelPlan;
@@ -92,23 +92,23 @@ pub extern "C" fn bench_search_all(
 ) -> u64 {
     let table = table_of(state);
     match table_gate(table, counts, words.len() as u64, flags.len() as u64) {
-        Ok(()) => sum_probes(table, counts, words, flags, identities),
+        Ok(()) => {
+            let view = View {
+                table: &table,
+                counts,
+                words,
+                flags,
+            };
+            sum_probes(&view, identities)
+        }
         Err(_) => 0,
     }
 }
 
-fn sum_probes(
-    table: FunnelTable,
-    counts: &[u64; 118],
-    words: &[u64],
-    flags: &[u8],
-    identities: &[u64],
-) -> u64
-    requires { Valid table counts.now words.now flags.now }
-{
+fn sum_probes(view: &View<u64>, identities: &[u64]) -> u64 {
     let mut sum: u64 = 0;
     for identity in identities {
-        sum = sum.wrapping_add(probes_of(find(table, counts, words, flags, *identity)));
+        sum = sum.wrapping_add(probes_of(find(view, *identity)));
     }
     sum
 }

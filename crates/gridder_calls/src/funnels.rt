@@ -6,6 +6,7 @@ ghost use Rattle.lent.specs.Lent.{words_of};
 
 use crate::enter::{enter, refuse};
 use funnel::table::FunnelTable;
+use funnel::view::View;
 use funnel_calls::calls::table_gate;
 use funnel_insert::insert::put;
 use funnel_search::search::find;
@@ -22,7 +23,13 @@ pub fn search_in(state: &[u8], words: &[u8], flags: &[u8], identity: u64, answer
     match enter(state, &mut counts, words.len(), flags.len(), answer.len()) {
         Err(refusal) => refuse(answer, refusal),
         Ok(table) => {
-            let found = find(table, &counts, words, flags, identity);
+            let view = View {
+                table: &table,
+                counts: &counts,
+                words,
+                flags,
+            };
+            let found = find(&view, identity);
             say_search(answer.as_mut_array().unwrap(), found)
         }
     }

@@ -7,6 +7,7 @@ ghost use Rattle.gridder_check.specs.Check.{check_call_gate, checked_fields, che
 
 use audit_calls::check::{CheckRefusal, audit, check_gate};
 use funnel::table::FunnelTable;
+use funnel::view::View;
 use gridder_answer::answer::{ANSWER_LENGTH, PLACED, SLOT, say_both, say_gate, say_number};
 use gridder_answer::gate::block_gate;
 use gridder_state::state::read_table;
@@ -34,7 +35,13 @@ pub fn check_in(
     match check_call_gate(table, &counts, entries, slots, marked, places, answer.len()) {
         Err(gate) => say_gate(answer, gate),
         Ok(()) => {
-            let done = audit(table, &counts, words, flags, marks, order);
+            let view = View {
+                table: &table,
+                counts: &counts,
+                words,
+                flags,
+            };
+            let done = audit(&view, marks, order);
             say_checked(answer.as_mut_array().unwrap(), done)
         }
     }

@@ -3,5 +3,5 @@ use Rattle.std.proofs.Common.{sym}
 use Rattle.funnel.specs.CallLaws.{gate_valid}
 use Rattle.bench_calls.proofs.funnels.bench_search_all.Goals as goal
 
-pub sum_probes-requires : goal.sum_probes-requires
-sum_probes-requires c = gate_valid _ _ _ _ (sym c.in-Ok.ensures)
+pub invariant_of-view : goal.invariant_of-view
+invariant_of-view c = record { valid = gate_valid _ _ _ _ (sym c.in-Ok.ensures) }

@@ -3,8 +3,8 @@ use Rattle.gridder_calls.specs.EnterLaws.{entry_ready, valid_in}
 use Rattle.gridder_calls.specs.CallLaws.{search_refused, search_open}
 use Rattle.gridder_calls.proofs.funnels.search_in.Goals as goal
 
-pub find-found-requires : goal.find-found-requires
-find-found-requires c = valid_in (entry_ready _ c.args.words.now c.args.flags.now c.args.answer.now _ _ c.enter.ensures _ c.in-Ok.is)
+pub invariant_of-view : goal.invariant_of-view
+invariant_of-view c = record { valid = valid_in (entry_ready _ c.args.words.now c.args.flags.now c.args.answer.now _ _ c.enter.ensures _ c.in-Ok.is) }
 
 pub unwrap-requires : goal.unwrap-requires
 unwrap-requires c =

@@ -6,12 +6,19 @@ use Rattle.gridder_check.proofs.call.check_in.Goals as goal
 pub returns-in_default : goal.returns-in_default
 returns-in_default c = checking_unheld _ c.args.words.now c.args.flags.now _ _ _ _ (reads_none _ _ _ _ c.read_table.ensures c.in_default.is) c.number.ensures
 
+pub invariant_of-view : goal.invariant_of-view
+invariant_of-view c =
+    let f = reads_some _ _ _ _ c.read_table.ensures _ c.in-Some.is in
+    let r = checking_ready _ c.args.words.now c.args.flags.now c.args.marks.now c.args.order.now c.args.answer.now _ _ _ _ f.1 f.2
+    c.word_count-entries.ensures c.word_count-places.ensures _ c.check_call_gate.ensures c.in-Ok.is in
+    record { valid = r.valid }
+
 pub audit-done-requires : goal.audit-done-requires
 audit-done-requires c =
     let f = reads_some _ _ _ _ c.read_table.ensures _ c.in-Some.is in
     let r = checking_ready _ c.args.words.now c.args.flags.now c.args.marks.now c.args.order.now c.args.answer.now _ _ _ _ f.1 f.2
     c.word_count-entries.ensures c.word_count-places.ensures _ c.check_call_gate.ensures c.in-Ok.is in
-    (r.valid, r.marks_n, r.order_n)
+    (r.marks_n, r.order_n)
 
 pub unwrap-requires : goal.unwrap-requires
 unwrap-requires c =
