@@ -29,8 +29,8 @@ pub struct Kind {
     pub again: bool,
 }
 
-// A field whose tag, length and body are right. A tag stays the number that it is in the image: the format is a table of such numbers (`fields`), of which
-// `read_after_write` and `write_after_read` speak.
+// A field whose tag, length and body are right. A tag stays the number that it is in the image: the format is a table of such numbers (`fields`),
+// of which `read_after_write` and `write_after_read` speak.
 #[derive(Clone, Copy, Debug, PartialEq, Eq)]
 pub struct Field {
     pub tag: u8,

@@ -43,7 +43,7 @@ struct Body<'a> {
     ghost right: { right_length fields tag len ≡ true },
 }
 
-// What an image says, or the place where it is malformed.
+// What an image says, or the place where it is malformed. The loop is over fields, of which each shows where the next begins.
 pub fn read(image: &[u8]) -> Result<Outline, usize>
     ensures { result ≡ outcome_of (read_of image.now) }
 {

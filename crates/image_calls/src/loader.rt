@@ -59,8 +59,8 @@ pub fn load<E: Stored>(
     }
 }
 
-// Both buffers hold the entries of a right image besides what they held. A right image has no wrong field, so nothing is
-// tested again.
+// Both buffers hold the entries of a right image besides what they held; the loop is over its fields, of which each shows where the next begins.
+// A right image has no wrong field, so nothing is tested again.
 fn fill_image<E: Stored>(image: &[u8], words: &mut [E], flags: &mut [u8])
     requires { (is_good (read_of image.now) ≡ true) × (slots_in (read_of image.now) ≤ length (E.words words.old)) × (slots_in (read_of image.now) ≤ length flags.old) }
     ensures { Fills (E.words words.old) flags.old (entries_in (read_of image.now)) (E.words words.new) flags.new }

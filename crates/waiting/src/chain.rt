@@ -1,6 +1,6 @@
-// Chains of numbers that wait: cleared, added to, and taken off. A caller lends the bytes anew for each call, and each promises of all of them what
-// stays as it was (`Filed`, `Popped`, `Woken`), so there is no struct that holds them. A link stays the number that lies in the bytes, 0 for none: it is
-// copied from place to place as it is.
+// Chains of numbers that wait: cleared, added to, and taken off. A caller lends the bytes anew for each call, and each promises of all of them
+// what stays as it was (`Filed`, `Popped`, `Woken`), so there is no struct that holds them. A link stays the number that lies in the bytes, 0 for
+// none: it is copied from place to place as it is.
 ghost use Rattle.std.specs.Prelude.{◌≤◌, ◌<◌, length};
 ghost use Rattle.waiting.specs.Links.{space, Fits, Cleared, Filed, Popped};
 ghost use Rattle.waiting.specs.Waiting.{Chained, Woken};
@@ -29,7 +29,7 @@ pub fn file(b: &mut [u8], m: u64, c: u64, u: u64)
     write32(b, (4 * u) as usize, c + 1);
 }
 
-// Every number that waits on c is a candidate now, and waits no longer.
+// Every number that waits on c is a candidate now, and waits no longer. The loop is over a chain, whose end shows as it is taken off.
 pub fn wake(b: &mut [u8], m: u64, c: u64)
     requires { Fits b.old m × (c < m) × Chained b.old m }
     ensures { Woken b.old b.new m c 0 }

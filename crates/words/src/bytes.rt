@@ -1,4 +1,4 @@
-// Little-endian numbers in byte slices: each is one load or one store.
+// Little-endian numbers in byte slices, each one load or store: by the library's methods of its type, so one for each size and no generic one.
 ghost use Rattle.std.specs.Prelude.{◌≡◌, ◌+◌, ◌<◌, ◌≤◌, ◌^◌, length};
 ghost use Rattle.std.proofs.lemmas.List.Edits.{sets};
 ghost use Rattle.words.specs.Bytes.{bytes_of, num_at, Read};
