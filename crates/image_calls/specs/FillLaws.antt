@@ -2,17 +2,13 @@
 use Rattle.std.specs.Prelude.{◌≡◌, refl, Bool, true, false, List, [], ◌∷◌, ◌++◌, ℕ, ◌+◌, ◌-◌, ◌/◌, ◌<◌, ◌≤◌, length, set, ltb, leb}
 use Rattle.std.proofs.Math.Path.{ap, sym}
 use Rattle.std.proofs.Common.{◌∙◌, arith, ltb-true, leb-true}
-use Rattle.std.proofs.Math.ListN.{replicate, length-set}
-use Rattle.std.proofs.lemmas.List.{length-replicate}
+use Rattle.std.proofs.Math.ListN.{length-set}
 use Rattle.words.specs.Pick.{pick}
 use Rattle.words.specs.Bytes.{num_at}
 use Rattle.image.specs.Format.{entry_size, Entry, entry}
 use Rattle.image.specs.TestLaws.{not_both}
 use Rattle.image.specs.Reading.{entries_at, rising}
 use Rattle.image.specs.RiseLaws.{entries_more}
-use Rattle.lent.specs.Lent.{whole_of, words_in}
-use Rattle.lent.specs.LentLaws.{from_zeros}
-use Rattle.lent.specs.StoreLaws.{length_wholes}
 use Rattle.image_calls.specs.Fill.{fill_words, fill_flags, Fills, Fits}
 
 -- what rising entries say of the first
@@ -85,20 +81,3 @@ pub length_fill_flags : (w : List ℕ) (es : List Entry) → length (fill_flags 
 unfolding fill_flags
 length_fill_flags w [] = refl
 length_fill_flags w (x ∷ es) = length_fill_flags (set w x.slot 1) es ∙ length-set w x.slot 1
-
--- ---- words set to zero, in whichever slice counts
-
-whole_zeros : (m : ℕ) → whole_of (replicate m 0) ≡ replicate (m / 8) 0
-unfolding whole_of
-whole_zeros m = let l : length (replicate {A = ℕ} m 0) ≡ m = length-replicate m 0 in rw l (from_zeros m 0 (m / 8))
-
-module _ (bytes : Bool) (words lent : List ℕ) where
-  pub bytes_zeros : bytes ≡ true → (lent' : List ℕ) → lent' ≡ replicate (length lent) 0 → words_in bytes words lent' ≡ replicate (length (words_in bytes words lent)) 0
-  unfolding words_in
-  bytes_zeros e lent' z =
-      let a : whole_of lent' ≡ replicate (length lent / 8) 0 = ap whole_of z ∙ whole_zeros (length lent) in
-      rw e (a ∙ ap (λ (k : ℕ). replicate k 0) (sym (length_wholes lent)))
-
-  pub numbers_zeros : bytes ≡ false → (words' : List ℕ) → words' ≡ replicate (length words) 0 → words_in bytes words' lent ≡ replicate (length (words_in bytes words lent)) 0
-  unfolding words_in
-  numbers_zeros e words' z = rw e z

@@ -1,5 +1,5 @@
 -- Words lent as little-endian bytes, eight to a word. Assumes nothing.
-use Rattle.std.specs.Prelude.{Bool, true, false, List, [], ◌∷◌, ◌++◌, ℕ, zero, suc, ◌+◌, ◌/◌, ◌%◌, eqb, length}
+use Rattle.std.specs.Prelude.{List, [], ◌∷◌, ◌++◌, ℕ, zero, suc, ◌+◌, ◌/◌, ◌%◌, eqb, length}
 use Rattle.words.specs.Bytes.{bytes_of, num_at}
 use Rattle.words.specs.Pick.{pick}
 
@@ -25,8 +25,3 @@ lent (x ∷ words) = bytes_of 8 x ++ lent words
 -- the whole words that bytes are: a last word of fewer than eight bytes is none
 unfoldable pub whole_of : List ℕ → List ℕ
 whole_of b = words_from b 0 (length b / 8)
-
--- words lent in one of two ways: as bytes, or as numbers
-unfoldable pub words_in : (bytes : Bool) (words lent : List ℕ) → List ℕ
-words_in true words lent = whole_of lent
-words_in false words lent = words

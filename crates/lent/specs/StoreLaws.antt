@@ -1,4 +1,4 @@
--- Laws of words lent as numbers or as bytes. Assumes nothing.
+-- Laws of the whole words that bytes are. Assumes nothing.
 use Rattle.std.specs.Prelude.{Bool, true, false, List, ◌⊎◌, ◌≡◌, refl, ℕ, ◌+◌, ◌*◌, ◌/◌, ◌%◌, ◌^◌, ◌<◌, ◌≤◌, ltb, length, get_or, set, replicate}
 use Rattle.std.proofs.lemmas.List.{length-replicate}
 use Rattle.std.proofs.Common.{inl, inr, ap, sym, ◌∙◌, arith, length-set, get_or-set_same, get_or-set_other, ext_get_or, ltb-true, ltb-false}
@@ -6,7 +6,7 @@ use Rattle.std.proofs.lemmas.List.Edits.{sets}
 use Rattle.std.proofs.Math.Seq.{length-sets}
 use Rattle.words.specs.Bytes.{bytes_of, num_at}
 use Rattle.words.specs.BytesLaws.{length_bytes, num_sets, num_stored}
-use Rattle.lent.specs.Lent.{words_from, words_of, whole_of, words_in}
+use Rattle.lent.specs.Lent.{words_from, words_of, whole_of}
 use Rattle.lent.specs.LentLaws.{length_from, from_at, words_at_lem, from_zeros}
 
 -- ---- whole words
@@ -59,59 +59,6 @@ module _ (b : List ℕ) (i x : ℕ) (fits : i < length b / 8) (word : x < 2 ^ 64
 
   pub whole_set : whole_of (sets b (i * 8) (bytes_of 8 x)) ≡ set (whole_of b) i x
   whole_set = ext_get_or 0 _ _ (same_length ∙ sym (length-set (whole_of b) i x)) stored_at
-
--- ---- which of the two slices counts
-
--- bytes that are whole words
-pub in_whole : (words lent : List ℕ) → length lent % 8 ≡ 0 → words_in true words lent ≡ words_of lent
-unfolding words_in
-in_whole words lent w = whole_words lent w
-
-module _ (bytes : Bool) (words lent : List ℕ) where
-  in_bytes : bytes ≡ true → words_in bytes words lent ≡ whole_of lent
-  unfolding words_in
-  in_bytes e = rw e
-
-  in_numbers : bytes ≡ false → words_in bytes words lent ≡ words
-  unfolding words_in
-  in_numbers e = rw e
-
-  pub count_bytes : bytes ≡ true → length lent / 8 ≡ length (words_in bytes words lent)
-  count_bytes e = sym (ap length (in_bytes e) ∙ length_wholes lent)
-
-  pub count_numbers : bytes ≡ false → length words ≡ length (words_in bytes words lent)
-  count_numbers e = sym (ap length (in_numbers e))
-
-  -- an index of the words lies in whichever slice counts
-  module _ (k : ℕ) (h : k < length (words_in bytes words lent)) where
-    pub below_bytes : bytes ≡ true → k * 8 + 8 ≤ length lent
-    below_bytes e =
-        let m = length_wholes lent in
-        let l : length (words_in bytes words lent) ≡ length (whole_of lent) = ap length (in_bytes e) in
-        omega arith
-
-    pub below_numbers : bytes ≡ false → k < length words
-    below_numbers e = rw (in_numbers e) at h
-
-    -- a word that is read
-    pub word_bytes : bytes ≡ true → get_or (words_of lent) k 0 ≡ get_or (words_in bytes words lent) k 0
-    word_bytes e =
-        let b = below_bytes e in
-        words_at_lem lent k (omega arith) ∙ sym (whole_at lent k (omega arith)) ∙ ap (λ (l : List ℕ). get_or l k 0) (sym (in_bytes e))
-
-    pub word_numbers : bytes ≡ false → get_or words k 0 ≡ get_or (words_in bytes words lent) k 0
-    word_numbers e = rw (in_numbers e)
-
--- a word that is stored
-module _ (bytes : Bool) (words lent : List ℕ) (k x : ℕ) (h : k < length (words_in bytes words lent)) where
-  pub put_bytes : (lent' : List ℕ) → x < 2 ^ 64 → bytes ≡ true → lent' ≡ sets lent (k * 8) (bytes_of 8 x) → words_in bytes words lent' ≡ set (words_in bytes words lent) k x
-  put_bytes lent' small e s =
-      let b = below_bytes bytes words lent k h e in
-      in_bytes bytes words lent' e ∙ ap whole_of s ∙ whole_set lent k x (omega arith) small ∙ ap (λ (l : List ℕ). set l k x) (sym (in_bytes bytes words lent e))
-
-  pub put_numbers : bytes ≡ false → words_in bytes (set words k x) lent ≡ set (words_in bytes words lent) k x
-  put_numbers e =
-      in_numbers bytes (set words k x) lent e ∙ ap (λ (l : List ℕ). set l k x) (sym (in_numbers bytes words lent e))
 
 -- ---- an index of whole words
 
