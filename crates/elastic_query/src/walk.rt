@@ -54,6 +54,7 @@ impl<'a, E: Stored> Walk<'a, E> {
             mapped: 0,
             words: spent,
         };
+        // No index is counted here: the node itself goes on to the next.
         while node.b <= self.look.cap {
             match self.along(node, cost) {
                 ControlFlow::Break(answer) => return answer,
@@ -154,6 +155,7 @@ fn climb(end: u64, j0: u64, q0: u64) -> Stretch
 {
     let mut j = j0;
     let mut q = q0;
+    // Nor here: j and q go up the tree by halves and by fours.
     while 1 < j {
         if j % 2 == 0 {
             return Stretch {
