@@ -45,7 +45,7 @@ pub enum Halt {
 }
 
 // Where a walk over the levels by first words ends: at a slot, told by level, bucket, the bucket's first slot and the index in it; past
-// them all; or before a level whose first word is rejected.
+// them all; or before a level whose first word is rejected. Four ends, each of which goes on in its own way: no Option, no Result.
 #[derive(Clone, Copy)]
 pub enum Walk {
     Hit(u64, u64, u64, u64),
