@@ -28,6 +28,7 @@
 //     specs/Greedy.antt    the greedy order
 //     specs/Special.antt   a path's two parts        specs/Verdicts.antt   the verdicts, given and queued
 //     specs/Waits.antt     the turns in the special part     specs/Marked.antt   the marks of an order
+//     specs/Viewed.antt    the same of an image that is lent as one view
 //     specs/*Laws.antt     what the proofs cite; OrdinaryLaws: why the rising pass is right; SpecialLaws: why a verdict is final;
 //                          WaitsLaws: why no other than a candidate is ready
 

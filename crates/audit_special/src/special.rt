@@ -19,7 +19,7 @@ use queue::keep::{remove, smallest};
 use waiting::chain::{file, wake};
 
 // Takes the smallest ready slot of the special part, which starts at `start`, again and again: how many are placed then. The ordinary
-// marks hold the candidates and those that wait.
+// marks hold the candidates and those that wait. No view: the marks stand for the flags and are written, so one is made for each look.
 pub fn take_live<E: Stored>(
     table: &FunnelTable,
     counts: &[u64; 118],

@@ -1,5 +1,5 @@
 -- That a table is valid has one proof at most, so that a struct can carry it (view.rt). Assumes nothing.
-use Rattle.std.specs.Prelude.{◌≡◌, List, [], ◌∷◌, ℕ, suc, ◌+◌, ◌-◌, ◌*◌, ◌/◌, ◌≤◌, ◌<◌, min, max, take, drop, get_or, replicate, length}
+use Rattle.std.specs.Prelude.{◌≡◌, List, [], ◌∷◌, ℕ, ◌-◌, ◌≤◌, min, max}
 use Rattle.std.proofs.Math.Nat.{∣_prop}
 use mathlib.Core.HLevel.{×_prop, is_prop→PathP}
 use native.Mathlib.Nat.{ℕ_set}
@@ -7,10 +7,9 @@ use native.Mathlib.Bridge.{le_prop}
 use denote.Struct.Props.{props}
 use Rattle.geometry.specs.Extreme.{IsLargest, IsSmallest}
 use Rattle.geometry.specs.ExtremeLaws.{largest_one, smallest_one}
-use Rattle.geometry.specs.Counts.{low_sum, high_sum, quarter, Brackets, Follows, Rest, First, Counts}
+use Rattle.geometry.specs.Counts.{low_sum, high_sum, quarter, Follows, Rest, First, Counts}
 use Rattle.geometry.specs.Special.{Special, Measured}
-use Rattle.geometry.specs.Config.{Configured}
-use Rattle.geometry.specs.Funnel.{PlanNumbers, PlanCounts, IsPlan}
+use Rattle.geometry.specs.Funnel.{IsPlan}
 use Rattle.geometry.specs.declared.funnel.FunnelPlan.{FunnelPlan}
 use Rattle.funnel.specs.Valid.{Valid}
 use Rattle.funnel.specs.declared.table.FunnelTable.{FunnelTable}

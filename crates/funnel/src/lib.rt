@@ -17,8 +17,8 @@
 //     view.rt       a valid table that is lent to be read
 //     scan.rt       walks over slots, the only readers of the buffers
 //
-// specs/Path.antt says what a path is, Search.antt and Insert.antt what a search and an insertion are, Calls.antt what the
-// public calls answer; proofs/FreshLaws.antt has the theorems about a table over time.
+// specs/Path.antt says what a path is, Search.antt and Insert.antt what a search and an insertion are, Viewed.antt what is asked of a view,
+// Calls.antt what the public calls answer; proofs/FreshLaws.antt has the theorems about a table over time.
 
 #![tactic(auto)]
 

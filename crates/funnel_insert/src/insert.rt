@@ -1,4 +1,4 @@
-// Insertion into a valid table.
+// Insertion into a valid table. Its words and flags are lent to be written, so they come one by one, and a view is made for the search.
 ghost use Rattle.std.specs.Prelude.{◌≡◌, ◌≤◌};
 ghost use Rattle.funnel.specs.Insert.{done, with_count, stepped, insert_of};
 ghost use Rattle.funnel.specs.Valid.{Valid};

@@ -1,4 +1,4 @@
-// Many insertions into a valid table, the inner loop of a gridder.
+// Many insertions into a valid table, the inner loop of a gridder. As in `funnel_insert`, a view is made for each search.
 ghost use Rattle.std.specs.Prelude.{◌≡◌, ◌≤◌, length};
 ghost use Rattle.funnel.specs.Insert.{with_count, settled_of, Settles, placed, place_all_of};
 ghost use Rattle.funnel.specs.Valid.{Valid};

@@ -61,7 +61,8 @@ pub fn search_levels<E: Stored>(sought: &Sought<E>) -> Search
     Search::Full { probes }
 }
 
-// "then g primary probes", among the primary slots from `start` on, with some probes made before
+// "then g primary probes", among the primary slots from `start` on, with some probes made before. It asks for room for these slots alone,
+// which is less than a valid table, so it takes no view; nor does `search_fallback`.
 pub fn search_primary<E: Stored>(
     table: &FunnelTable,
     start: u64,

@@ -1,6 +1,5 @@
 use native.Mathlib.Omega.{arith}
 use mathlib.Core.Path.{◌∙◌}
-use Rattle.audit.specs.GreedyLaws.{valid_marks}
 use Rattle.audit.specs.VerdictLaws.{judged_none, judged_more, judged_bit, judged_end}
 use Rattle.audit.proofs.verdict.judge.Goals as goal
 use Rattle.audit.proofs.verdict.judge.Goals.{then-is_live, else-is_live}

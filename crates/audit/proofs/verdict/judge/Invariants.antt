@@ -1,5 +1,4 @@
 -- `audit::verdict::judge` meets its contract. Assumes nothing.
-use Prim.Native.Nat.{◌≤◌}
 use Rattle.audit.specs.Viewed.{live_in}
 use Rattle.audit.specs.Verdicts.{Judged}
 use Rattle.audit.proofs.verdict.judge.Given as goal

@@ -7,7 +7,7 @@ use Rattle.geometry.specs.FunnelLaws.{plan_facts}
 use Rattle.funnel.specs.PlanLaws.{primary_start_lem}
 use Rattle.audit.specs.VerdictLaws.{early_cleared}
 use Rattle.audit.specs.MarkedLaws.{listed_whole}
-use Rattle.audit.specs.GreedyLaws.{going_on, greedy_cleared, valid_marks}
+use Rattle.audit.specs.GreedyLaws.{going_on, greedy_cleared}
 use Rattle.audit_pass.proofs.pass.take_members.Goals as goal
 
 pub overflow_sub-start : goal.overflow_sub-start

@@ -1,7 +1,7 @@
 use native.Mathlib.Omega.{arith}
 use mathlib.Core.Path.{◌≡◌, refl, sym, ◌∙◌}
 use Rattle.audit.specs.VerdictLaws.{early_more, early_set}
-use Rattle.audit.specs.GreedyLaws.{going_none, going_skip, going_rise, valid_marks}
+use Rattle.audit.specs.GreedyLaws.{going_none, going_skip, going_rise}
 use Rattle.audit_pass.proofs.pass.take_ordinary.Goals as goal
 use Rattle.audit_pass.proofs.pass.take_ordinary.Goals.{then-is_ready, else-is_ready}
 
