@@ -3,7 +3,7 @@ use crate::say::{Identity, put_gate};
 use refusal::{Gate, Name};
 use text::out::Out;
 
-// What the check says of a table.
+// What the check says of a table. No Result: each of the four is printed as it is, and none is handed on by `?`.
 #[derive(Clone, Copy)]
 pub enum Verdict {
     Accepted,
