@@ -2,9 +2,6 @@
 use Rattle.gridder_elastic.specs.OpenLaws.{open_room, opens_refused, opens_passed}
 use Rattle.landovireph.proofs.elastics.landovireph_elastic_open.Goals as goal
 
-pub fresh-requires : goal.fresh-requires
-fresh-requires c = (open_room c.args.n c.args.e c.args.seed _ c.args.state.now c.args.words.now c.args.flags.now c.args.answer.now _ c.word_count-entries.ensures _ c.open_blocks_gate.ensures c.in-Ok.is).least
-
 pub open_in-requires : goal.open_in-requires
 open_in-requires c = (open_room c.args.n c.args.e c.args.seed _ c.args.state.now c.args.words.now c.args.flags.now c.args.answer.now _ c.word_count-entries.ensures _ c.open_blocks_gate.ensures c.in-Ok.is).state_right
 
