@@ -4,7 +4,7 @@ ghost use Rattle.gridder_elastic_state.specs.State.{holds_elastic, Reads, limits
 
 use elastic::state::{Limits, State};
 use geometry::elastic::ElasticPlan;
-use gridder_state::state::{STATE_LENGTH, write_count, write_words};
+use gridder_state::state::{STATE_LENGTH, read_words, write_count, write_words};
 use words::bytes::read64;
 use words::clear::clear_bytes;
 
@@ -31,7 +31,7 @@ pub fn read_state(state: &[u8], counts: &mut [u64; 32]) -> Option<State>
         return None;
     }
     let block = state.as_array()?;
-    read_counts(block, counts);
+    read_words(block, LEVELS, counts);
     Some(State {
         n: read64(block, 8),
         e: read64(block, 16) as u32,
@@ -54,15 +54,6 @@ fn limits_in(block: &[u8; STATE_LENGTH]) -> Limits
         range_word_cap: read64(block, 32),
         uniform_search_probe_cap: read64(block, 72),
         hit_query_position_cap: read64(block, 80),
-    }
-}
-
-// The counts of a table's levels, into an array.
-fn read_counts(block: &[u8; STATE_LENGTH], counts: &mut [u64; 32])
-    ensures { counts.new ≡ counts_in block.now }
-{
-    for (i, count) in counts.iter_mut().enumerate() {
-        *count = read64(block, LEVELS + i * 8);
     }
 }
 

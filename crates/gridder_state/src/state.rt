@@ -1,7 +1,7 @@
 // The state block: where a table's numbers lie in it (see lib.rt), read and written.
 ghost use Rattle.std.specs.Prelude.{◌≡◌, ◌+◌, ◌*◌, ◌≤◌, length};
 ghost use Rattle.std.proofs.lemmas.List.Edits.{sets};
-ghost use Rattle.lent.specs.Lent.{lent};
+ghost use Rattle.lent.specs.Lent.{lent, words_from};
 ghost use Rattle.gridder_state.specs.State.{holds_funnel, Reads, plan_in, counts_in, funnel_block, with_count_in};
 
 use funnel::table::FunnelTable;
@@ -36,7 +36,7 @@ pub fn read_table(state: &[u8], counts: &mut [u64; 118]) -> Option<FunnelTable>
         return None;
     }
     let block = state.as_array()?;
-    read_counts(block, counts);
+    read_words(block, COUNTS, counts);
     Some(FunnelTable {
         n: read64(block, 8),
         e: read64(block, 16) as u32,
@@ -63,15 +63,6 @@ fn plan_in(block: &[u8; STATE_LENGTH]) -> FunnelPlan
         fallback_bucket_count: read64(block, 112),
         total_buckets: read64(block, 120),
         first_bucket_count: read64(block, 128),
-    }
-}
-
-// The counts of a table's levels, into an array.
-fn read_counts(block: &[u8; STATE_LENGTH], counts: &mut [u64; 118])
-    ensures { counts.new ≡ counts_in block.now }
-{
-    for (i, count) in counts.iter_mut().enumerate() {
-        *count = read64(block, COUNTS + i * 8);
     }
 }
 
@@ -103,6 +94,16 @@ pub fn write_table(state: &mut [u8], table: FunnelTable, counts: &[u64; 118])
     clear_bytes(state);
     write_words(state, 0, &header);
     write_words(state, COUNTS, counts);
+}
+
+// The words that bytes from an offset on are, into a slice.
+pub fn read_words(from: &[u8], at: usize, into: &mut [u64])
+    requires { at + length into.old * 8 ≤ length from.now }
+    ensures { into.new ≡ words_from from.now at (length into.old) }
+{
+    for (i, word) in into.iter_mut().enumerate() {
+        *word = read64(from, at + i * 8);
+    }
 }
 
 // Words as bytes from an offset on.

@@ -1,6 +1,7 @@
 -- `gridder_elastic_state::state::read_state` meets its contract. A block that holds a table has its length, and its e fits. Assumes nothing.
 use mathlib.Core.Path.{refl, ap, sym, ◌∙◌}
 use native.Mathlib.Omega.{arith}
+use Rattle.lent.specs.Lent.{words_from}
 use Rattle.gridder_elastic_state.specs.State.{Reads, state_in, counts_in}
 use Rattle.gridder_state.specs.StateLaws.{holds_facts}
 use Rattle.gridder_elastic_state.proofs.state.read_state.Goals as goal
@@ -22,7 +23,7 @@ overflow_cast-result c =
     omega (arith, h.exponent)
 
 pub returns : goal.returns
-unfolding Reads state_in
+unfolding Reads state_in counts_in
 returns c =
     let same = c.in_ok-block.ensures.cases.same in
-    (sym c.holds_elastic.ensures ∙ c.if-not-holds_elastic.false, rw (← same) (cc), c.read_counts.ensures ∙ ap counts_in same)
+    (sym c.holds_elastic.ensures ∙ c.if-not-holds_elastic.false, rw (← same) (cc), c.read_words.ensures ∙ ap (words_from _ 88) c.told-counts ∙ ap counts_in same)
