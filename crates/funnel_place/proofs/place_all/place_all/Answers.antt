@@ -30,13 +30,17 @@ put-requires-in-There g c = let p = c.loop-i.invariant.0 in omega (arith, c.coun
 pub loop-i-preserved : goal.loop-i-preserved
 loop-i-preserved g c = elim c.match-settled.branch [
   | in-Put w ↦
-    rw (w.slots-is, w.count-is)
-    (rw w.put.ensures (placing_put _ _ _ _ _ _ c.loop-i.invariant.0 (omega (arith, c.count-total.ensures, c.loop-i-test.true)) _ _ _ (settles_of _ _ _ _ _ _ _ _ _ _ c.word-identity.ensures c.settle.ensures) _ (c.in-Ok.is ∙ ap Ok w.in-Put.is)).1,
-    omega (arith, c.settle.auto.words, c.loop-i.invariant.1), omega (arith, w.put.auto.lent, c.loop-i.invariant.2))
+      rw (w.slots-is, w.count-is) (
+        rw w.put.ensures (placing_put _ _ _ _ _ _ c.loop-i.invariant.0 (omega (arith, c.count-total.ensures, c.loop-i-test.true)) _ _ _ (settles_of _ _ _ _ _ _ _ _ _ _ c.word-identity.ensures c.settle.ensures) _ (c.in-Ok.is ∙ ap Ok w.in-Put.is)).1,
+        omega (arith, c.settle.auto.words, c.loop-i.invariant.1),
+        omega (arith, w.put.auto.lent, c.loop-i.invariant.2),
+      )
   | in-There w ↦
-    rw (w.slots-is, w.count-is)
-    (rw w.put-in-There.ensures (placing_there _ _ _ _ _ _ c.loop-i.invariant.0 (omega (arith, c.count-total.ensures, c.loop-i-test.true)) _ _ _ (settles_of _ _ _ _ _ _ _ _ _ _ c.word-identity.ensures c.settle.ensures) _ (c.in-Ok.is ∙ ap Ok w.in-There.is)),
-    omega (arith, c.settle.auto.words, c.loop-i.invariant.1), omega (arith, w.put-in-There.auto.lent, c.loop-i.invariant.2))
+      rw (w.slots-is, w.count-is) (
+        rw w.put-in-There.ensures (placing_there _ _ _ _ _ _ c.loop-i.invariant.0 (omega (arith, c.count-total.ensures, c.loop-i-test.true)) _ _ _ (settles_of _ _ _ _ _ _ _ _ _ _ c.word-identity.ensures c.settle.ensures) _ (c.in-Ok.is ∙ ap Ok w.in-There.is)),
+        omega (arith, c.settle.auto.words, c.loop-i.invariant.1),
+        omega (arith, w.put-in-There.auto.lent, c.loop-i.invariant.2),
+      )
 ]
 
 pub shape_of-words-in-Err : goal.shape_of-words-in-Err
