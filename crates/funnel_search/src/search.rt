@@ -164,7 +164,7 @@ pub fn pass_levels<E: Stored>(view: &View<E>, identity: u64) -> Stop
     Stop::Nowhere
 }
 
-// The bucket of a level by its first word, where there is such a level.
+// The bucket of a level by its first word, where there is such a level; past the last one 0, and no Option, since nothing reads it there.
 pub fn first_bucket(key: FunnelKey, counts: &[u64; 118], alpha: u64, level: u64) -> u64
     requires { (alpha ≤ 118) × ((k : ℕ) → k < alpha → 0 < get_or counts.now k 0) }
     ensures { FirstAhead key counts.now alpha level result }

@@ -39,6 +39,7 @@ fn special_period(h: u64, w: u64) -> u64
     let mut k = 1;
     let mut a = h;
     let mut b = w;
+    // Which of the two goes on shows in the turn; k tells which multiple of h is reached.
     while a != b {
         if a < b {
             a += h;

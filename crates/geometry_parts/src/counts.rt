@@ -40,7 +40,7 @@ fn nearest_feasible_first_count(t: u64, levels: usize) -> u64
     smallest_reaching(t, levels, q)
 }
 
-// The smallest count whose largest path reaches t; that of q does not.
+// The smallest count whose largest path reaches t; that of q does not. No index is counted: the range is halved.
 fn smallest_reaching(t: u64, levels: usize, q: u64) -> u64
     requires { (0 < levels) × (high_sum q levels < t) }
     ensures { IsSmallest (λ y. t ≤ high_sum y levels) result }
@@ -58,7 +58,7 @@ fn smallest_reaching(t: u64, levels: usize, q: u64) -> u64
     lo
 }
 
-// The largest count whose smallest path stays within t; that of q does not.
+// The largest count whose smallest path stays within t; that of q does not. The range is halved here too.
 fn largest_within(t: u64, levels: usize, q: u64) -> u64
     requires { (0 < levels) × (levels ≤ t) × (t < low_sum q levels) × (q ≤ t) }
     ensures { IsLargest (λ y. low_sum y levels ≤ t) result }

@@ -1,4 +1,4 @@
-// The smallest n that a count asks for: where the search starts.
+// The smallest n that a count asks for: where the search starts. Bounds of n and e stay in the contracts, as `geometry_parts`, special.rt, says.
 ghost use Rattle.std.specs.Prelude.{◌≡◌, ◌<◌, ◌≤◌, ◌^◌};
 ghost use Rattle.geometry_smallest.specs.Slots.{Needed, Start};
 

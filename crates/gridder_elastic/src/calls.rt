@@ -1,4 +1,5 @@
 // The calls on elastic tables, for a state block that holds one; an opening for any.
+// Beside those on funnel tables in `gridder_calls`: each is a call of its own for C, on another engine.
 ghost use Rattle.std.specs.Prelude.{◌≡◌, length};
 ghost use Rattle.lent.specs.Lent.{words_of};
 ghost use Rattle.gridder_answer.specs.Answer.{reply};

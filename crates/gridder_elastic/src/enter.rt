@@ -1,4 +1,5 @@
 // What every call on a block that holds an elastic table begins with.
+// As `gridder_calls` does it for a funnel table: another block, and other gates.
 ghost use Rattle.gridder_elastic.specs.Enter.{Enters};
 
 use elastic::state::{State, state_gate};

@@ -107,7 +107,7 @@ fn number(tag: u8, size: usize) -> Kind
     }
 }
 
-// The place of a tag's kind in the format, the number of kinds for a byte that is no tag.
+// The place of a tag's kind in the format, the number of kinds for a byte that is no tag: `kind_at` and the theorems over `fields` go on from that place.
 #[tactic(auto, using(crate::specs::KindLaws::rank_none), unfolding(crate::specs::Reading::rank_of, crate::specs::Format::fields))]
 fn rank(tag: u8) -> u8
     ensures { result ≡ rank_of fields tag }

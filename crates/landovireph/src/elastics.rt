@@ -1,4 +1,5 @@
 // The calls for C on elastic tables. Each requires nothing.
+// Beside those on funnel tables: C links to each by its own name.
 ghost use Rattle.std.specs.Prelude.{◌≡◌};
 ghost use Rattle.gridder_answer.specs.Answer.{reply};
 ghost use Rattle.gridder_calls.specs.Calls.{left};

@@ -1,4 +1,5 @@
 // Counters: the fields level, probe and retry, and for the funnel a tag, packed into one word by shifts.
+// Elastic and funnel draws differ in keys, fields and limits, not in a type or a constant: so there are two of a function where both are drawn.
 ghost use Rattle.std.specs.Prelude.{◌≡◌, ◌+◌, ◌*◌, ◌^◌, ◌<◌, nat_lt};
 ghost use Rattle.probe.specs.Counter.{elastic_counter_of, elastic_packed_of, tag_of, level_of, funnel_counter_of, funnel_packed_of};
 

@@ -1,4 +1,5 @@
 // Keys of an identity under a seed, and the words that a key and a counter give.
+// Elastic and funnel draws differ in keys, fields and limits, not in a type or a constant: so there are two of a function where both are drawn.
 ghost use Rattle.std.specs.Prelude.{◌≡◌};
 ghost use Rattle.probe.specs.Word.{elastic_key_of, funnel_in_of, funnel_out_of, word_of, elastic_worded_of, funnel_worded_of};
 
@@ -35,6 +36,7 @@ pub fn funnel_key(seed: u64, identity: u64) -> FunnelKey
 }
 
 // "word = mix64(counter xor key) xor key" for the elastic table; the funnel's key is one number inside and one outside.
+// It takes both: as one `FunnelKey` an elastic key would be held twice.
 pub(crate) fn keyed_word(inner: u64, outer: u64, counter: u64) -> u64
     ensures { result ≡ word_of inner outer counter }
 {

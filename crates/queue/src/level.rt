@@ -11,7 +11,7 @@ pub fn groups_of(k: u64) -> u64
     k / 64 + (k % 64 + 63) / 64
 }
 
-// The first of group j that is set, or k.
+// The first of group j that is set, or k, which is no flag: as with `first_set`, callers compare with it.
 pub fn first_of(b: &[u8], low: u64, k: u64, j: u64) -> u64
     requires { (low + k ≤ length b.now) × (j < groups k) }
     ensures { InGroup b.now low k j result }

@@ -3,7 +3,7 @@ ghost use Rattle.std.specs.Prelude.{◌≡◌, ◌≤◌, length, nat_eq, not};
 ghost use Rattle.std.specs.List.{position};
 ghost use Rattle.queue.specs.Level.{FirstSet, Wiped};
 
-// The first place from `from` on whose byte is not 0, or `to`.
+// The first place from `from` on whose byte is not 0, or `to`: the end stands for none and no Option, since callers compare with the end that they have.
 pub fn first_set(b: &[u8], from: u64, to: u64) -> u64
     requires { (from ≤ to) × (to ≤ length b.now) }
     ensures { FirstSet b.now from to result }

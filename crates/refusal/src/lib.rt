@@ -93,7 +93,7 @@ pub fn gate_name(gate: Gate) -> Name
     }
 }
 
-// The number of a draw's domain.
+// The number of a draw's domain. A number and no From, as of a row below: it is what C and the programs are told.
 #[tactic(auto, unfolding(crate::specs::Draw::domain_of))]
 pub fn domain_number(draw: Draw) -> u64
     ensures { result ≡ domain_of draw }
@@ -107,7 +107,7 @@ pub fn domain_number(draw: Draw) -> u64
     }
 }
 
-// The level of a draw, 0 where it has none.
+// The level of a draw, 0 where it has none: what is told of a draw is numbers.
 #[tactic(auto, unfolding(crate::specs::Draw::draw_level_of))]
 pub fn draw_level(draw: Draw) -> u64
     ensures { result ≡ draw_level_of draw }
@@ -118,7 +118,7 @@ pub fn draw_level(draw: Draw) -> u64
     }
 }
 
-// The number of a row.
+// The number of a row: what C and the programs are told.
 #[tactic(auto, unfolding(crate::specs::Table::number_of))]
 pub fn number(name: Name) -> u64
     ensures { result ≡ number_of name }
