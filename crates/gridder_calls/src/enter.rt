@@ -21,8 +21,8 @@ pub enum EnterRefusal {
 impl From<Gate> for EnterRefusal {
     ghost from_gives = { λ gate refusal. refusal ≡ Refused gate };
 
-    fn from(gate: Gate) -> EnterRefusal {
-        EnterRefusal::Refused(gate)
+    fn from(refused: Gate) -> EnterRefusal {
+        EnterRefusal::Refused(refused)
     }
 }
 
