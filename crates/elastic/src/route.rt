@@ -1,4 +1,5 @@
 // The slot of a probe, the search of a level for a vacancy, and the scan of all slots for an identity.
+// Words and flags are two slices here: what looks at slots asks for their lengths alone, which is less than a valid table.
 ghost use Rattle.std.specs.Prelude.{◌≡◌, Bool, true, false, ℕ, ◌+◌, ◌-◌, ◌*◌, ◌<◌, ◌≤◌, length, get_or};
 ghost use Rattle.elastic.specs.Reading.{reading_of, seek_of, holds_at, first_of, Without, Probed, Seekable};
 

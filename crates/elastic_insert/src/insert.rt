@@ -1,4 +1,5 @@
 // The insertion: what is tested before, and what is written.
+// Words and flags stay parameters: they are lent to be written.
 ghost use Rattle.std.specs.Prelude.{◌≡◌, ◌+◌, ◌-◌, ◌/◌, ◌^◌, ◌<◌, ◌≤◌, length, set, Ok};
 ghost use Rattle.elastic_probe.specs.Phi.{phi};
 ghost use Rattle.elastic.specs.State.{Valid};

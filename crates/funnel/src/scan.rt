@@ -1,4 +1,5 @@
 // Walks over slots: the innermost loops of every search. Only these, and the writes of an insertion, touch the buffers.
+// Words and flags are two slices here, and no `View`: each walk asks for room in them alone, which is less than a valid table.
 ghost use Rattle.std.specs.Prelude.{[], ◌∷◌, ◌≡◌, ◌+◌, ◌*◌, ◌%◌, ◌≤◌, ◌<◌, ◌^◌, length};
 ghost use Rattle.funnel.specs.Path.{slot_of, run, bucket_from, pairs_from};
 ghost use Rattle.funnel.specs.Search.{search_of};

@@ -143,7 +143,7 @@ pub fn say_both(answer: &mut [u8; ANSWER_LENGTH], at: usize, x: u64, to: usize, 
     write64(answer, to, y);
 }
 
-// A place and the probes it took.
+// A place and the probes it took. It and the next stay two: as one, with a flag for FOUND, each would still store another row of fields.
 fn say_reached(answer: &mut [u8; ANSWER_LENGTH], probes: u64, place: Place)
     ensures { answer.new ≡ says (field probes_at probes ∷ place_fields place) }
 {

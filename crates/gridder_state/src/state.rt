@@ -1,4 +1,5 @@
 // The state block: where a table's numbers lie in it (see lib.rt), read and written.
+// What is written stays a slice that is 2,048 bytes long: that is what C lends, and the gate of each call has tested its length.
 ghost use Rattle.std.specs.Prelude.{◌≡◌, ◌+◌, ◌*◌, ◌≤◌, length};
 ghost use Rattle.std.proofs.lemmas.List.Edits.{sets};
 ghost use Rattle.lent.specs.Lent.{lent, words_from};

@@ -1,4 +1,5 @@
 // The loader: the whole image is read first, and only a right image of this very table is filled in.
+// Words and flags stay parameters: they are lent to be filled.
 ghost use Rattle.std.specs.Prelude.{true, ◌≡◌, ◌+◌, ◌*◌, ◌≤◌, length};
 ghost use Rattle.image.specs.Format.{entry_size};
 ghost use Rattle.image.specs.Reading.{entries_at, read_of};

@@ -1,5 +1,6 @@
 // Reduction of words to an index below a number of values, without bias.
 // Elastic and funnel draws differ in keys, fields and limits, not in a type or a constant: so there are two of a function where both are drawn.
+// The cores ask for bounds of level, probe, length and cap as numbers: the public functions have tested them, and a type for each would hold one number.
 ghost use Rattle.std.specs.Prelude.{◌≡◌, ◌+◌, ◌-◌, ◌*◌, ◌/◌, ◌%◌, ◌^◌, ◌<◌, ◌≤◌, ◌==◌, nat_le};
 ghost use Rattle.std.specs.Int.Count.{count_trailing_zeros};
 ghost use Rattle.probe.specs.Counter.{level_of};

@@ -1,5 +1,5 @@
 // The large arrays of the programs. Each comes from a function whose contract gives its length, which lending it as a slice
-// needs: the checker then need not count the elements.
+// needs: the checker then need not count the elements. They are arrays, since the programs take no heap.
 ghost use Rattle.std.specs.Prelude.{◌≡◌, length};
 
 // The most slots that a table has in a program.
