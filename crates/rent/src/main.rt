@@ -43,6 +43,7 @@ fn main(rt: HostRuntime) {
 impl Answer for Rents {
     const LONG: u8 = b'?';
 
+    // As layout's: one function for both would take the two calls in it from each program.
     fn answer(line: &[u8], out: &mut Out) -> Option<()> {
         answer_query(parse(line)?, out);
         Some(())

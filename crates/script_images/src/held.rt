@@ -15,7 +15,8 @@ pub fn command(verb: Verb, fields: Fields, out: &mut Out) {
     put_refusal(carried_out(verb, fields, out), out);
 }
 
-// In the first n slots of large buffers.
+// In the first n slots of large buffers. `script_elastic` has the same calls in a row, as it has `asked_by`, on its own types: a trait
+// over both would name each call once more.
 fn carried_out(verb: Verb, fields: Fields, out: &mut Out) -> Result<(), Refusal> {
     let Asked { opening, task } = asked_by(verb, fields)?;
     let mut words = word_buffer();
