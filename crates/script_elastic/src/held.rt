@@ -1,6 +1,6 @@
 // A table opened in buffers of its length, and the run on it.
 use crate::answers::{Done, insert_refusal, query_refusal};
-use crate::setting::{Setting, asked_by};
+use crate::setting::{Asked, Setting, asked_by};
 use elastic::state::{State, open};
 use elastic_insert::insert::insert;
 use elastic_query::query::query;
@@ -70,9 +70,12 @@ pub fn command(form: Form, fields: Fields, out: &mut Out) {
     put_refusal(carried_out(form, fields, out), out);
 }
 
-// In the first n slots of large buffers.
 fn carried_out(form: Form, fields: Fields, out: &mut Out) -> Result<(), Refusal> {
-    let asked = asked_by(form, fields)?;
+    in_buffers(asked_by(form, fields)?, out)
+}
+
+// In the first n slots of large buffers. No `?` stands before these, which would have them zeroed twice.
+fn in_buffers(asked: Asked, out: &mut Out) -> Result<(), Refusal> {
     let mut words = word_buffer();
     let mut flags = io::large_buffer();
     let slots = first_slots(asked.setting.n, &mut words, &mut flags);

@@ -15,16 +15,19 @@ pub fn command(verb: Verb, fields: Fields, out: &mut Out) {
     put_refusal(carried_out(verb, fields, out), out);
 }
 
-// In the first n slots of large buffers. `script_elastic` has the same calls in a row, as it has `asked_by`, on its own types: a trait
-// over both would name each call once more.
 fn carried_out(verb: Verb, fields: Fields, out: &mut Out) -> Result<(), Refusal> {
-    let Asked { opening, task } = asked_by(verb, fields)?;
+    in_buffers(asked_by(verb, fields)?, out)
+}
+
+// In the first n slots of large buffers. No `?` stands before these, which would have them zeroed twice. `script_elastic` has the same
+// calls in a row, as it has `asked_by`, on its own types: a trait over both would name each call once more.
+fn in_buffers(asked: Asked, out: &mut Out) -> Result<(), Refusal> {
     let mut words = word_buffer();
     let mut flags = io::large_buffer();
-    let slots = first_slots(opening.n, &mut words, &mut flags);
+    let slots = first_slots(asked.opening.n, &mut words, &mut flags);
     let (words, flags) = slots.ok_or(Refusal::Large)?;
     let mut counts = [0; 118];
-    let Opening { n, e, seed, cap } = opening;
+    let Opening { n, e, seed, cap } = asked.opening;
     let table = open(n, e, seed, cap, &mut counts, words, flags)?;
     let mut held = Held {
         table,
@@ -32,7 +35,7 @@ fn carried_out(verb: Verb, fields: Fields, out: &mut Out) -> Result<(), Refusal>
         words,
         flags,
     };
-    answer(task, &mut held, out);
+    answer(asked.task, &mut held, out);
     Ok(())
 }
 
