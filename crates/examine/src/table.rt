@@ -9,7 +9,7 @@ use geometry_funnel::plan::funnel_gate;
 use image_calls::calls::{LoadImageRefusal, Loaded, load_image};
 use image_calls::loader::LoadRefusal;
 use refusal::Name;
-use text::buffers::{MOST_SLOTS, word_buffer};
+use text::buffers::{MOST_SLOTS, first_slots, word_buffer};
 use text::out::Out;
 
 // What an image is.
@@ -97,9 +97,8 @@ fn examine_size(image: &[u8], given: Given, out: &mut Out) {
 fn examine_table(image: &[u8], given: Given, out: &mut Out) {
     let mut words = word_buffer();
     let mut flags = io::large_buffer();
-    let n = given.n as usize;
-    if n <= words.len() && n <= flags.len() {
-        load_table(image, given, &mut words[..n], &mut flags[..n], out);
+    if let Some((words, flags)) = first_slots(given.n, &mut words, &mut flags) {
+        load_table(image, given, words, flags, out);
     }
 }
 

@@ -4,7 +4,7 @@ use examine_words::telling::{Met, Reason, Stuck, Verdict};
 use funnel::table::{FunnelTable, Search, slot_of};
 use funnel_calls::calls::search;
 use refusal::Gate;
-use text::buffers::word_buffer;
+use text::buffers::{first_slots, word_buffer};
 
 // A loaded table.
 #[derive(Clone, Copy)]
@@ -17,13 +17,11 @@ pub struct Held<'a> {
 
 // The verdict on a loaded table: the check has the first n entries of large buffers.
 pub fn judge(held: Held) -> Verdict {
-    let mut marks = io::large_buffer();
     let mut order = word_buffer();
-    let n = held.words.len();
-    if n <= marks.len() && n <= order.len() {
-        checked(held, &mut marks[..n], &mut order[..n])
-    } else {
-        Verdict::Gate(Gate::State)
+    let mut marks = io::large_buffer();
+    match first_slots(held.words.len() as u64, &mut order, &mut marks) {
+        Some((order, marks)) => checked(held, marks, order),
+        None => Verdict::Gate(Gate::State),
     }
 }
 

@@ -31,12 +31,11 @@ fn main(rt: HostRuntime) {
 }
 
 impl Answer for Layouts {
-    fn answer(line: Option<&[u8]>, out: &mut Out) {
-        match line.and_then(parse) {
-            Some(query) => answer_query(query, out),
-            None => out.byte(b'?'),
-        }
-        out.byte(b'\n');
+    const LONG: u8 = b'?';
+
+    fn answer(line: &[u8], out: &mut Out) -> Option<()> {
+        answer_query(parse(line)?, out);
+        Some(())
     }
 }
 

@@ -31,12 +31,12 @@ fn line_buffer() -> [u8; 524289]
 }
 
 impl Answer for Replay {
-    fn answer(line: Option<&[u8]>, out: &mut Out) {
-        match line {
-            Some(line) => answer_command(Fields::new(line), out),
-            None => out.byte(b'L'),
-        }
-        out.byte(b'\n');
+    const LONG: u8 = b'L';
+
+    // What is no command is answered as one that is refused.
+    fn answer(line: &[u8], out: &mut Out) -> Option<()> {
+        answer_command(Fields::new(line), out);
+        Some(())
     }
 }
 

@@ -1,1 +1,2 @@
 pub mod Operations
+pub mod Run

@@ -51,7 +51,7 @@ pub enum Operations<'a> {
 }
 
 impl<'a> Operations<'a> {
-    pub fn is_bulk(self) -> bool {
+    pub(crate) fn is_bulk(self) -> bool {
         matches!(self, Operations::Bulk { .. })
     }
 }

@@ -24,7 +24,7 @@ pub enum Refusal {
 
 impl Refusal {
     // The row of the table of refusals, which those of the program do not have.
-    pub fn name(self) -> Option<Name> {
+    pub(crate) fn name(self) -> Option<Name> {
         match self {
             Refusal::Unknown | Refusal::Large => None,
             Refusal::Named(name) | Refusal::Valued(name, _) => Some(name),
@@ -129,5 +129,12 @@ pub fn put_answer<A: Display + Drop>(answer: Result<A, Refusal>, out: &mut Out) 
     match answer {
         Ok(done) => write!(out, "{done}"),
         Err(refused) => write!(out, "{refused}"),
+    }
+}
+
+// What keeps a command from being carried out; nothing where it was.
+pub fn put_refusal(answer: Result<(), Refusal>, out: &mut Out) {
+    if let Err(refused) = answer {
+        write!(out, "{refused}");
     }
 }

@@ -1,4 +1,9 @@
 // A run taken apart: what its table is opened with, and what is asked of it.
+ghost use Rattle.std.specs.Prelude.{◌≡◌, ◌+◌, ◌≤◌, length, IfSome};
+ghost use Rattle.std.specs.Result.{IfOk};
+ghost use Rattle.script.specs.Operations.{Asks};
+ghost use Rattle.text.specs.Fields.{fields_left};
+
 use crate::operation::{Kind, Operations, parse};
 use crate::print::Refusal;
 use geometry_funnel::plan::funnel_gate;
@@ -23,7 +28,9 @@ pub enum Form {
 }
 
 // The fields n e seed cap that each command on a funnel table starts with, or none.
-pub fn opening_of(fields: &mut Fields) -> Option<Opening> {
+pub fn opening_of(fields: &mut Fields) -> Option<Opening>
+    ensures { IfSome result (λ _. length (fields_left fields.old) ≡ length (fields_left fields.new) + 4) }
+{
     let [n, e, seed, cap] = fields.numbers::<4>()?;
     Some(Opening {
         n,
@@ -34,7 +41,9 @@ pub fn opening_of(fields: &mut Fields) -> Option<Opening> {
 }
 
 // What keeps a funnel table from being opened here: a refusal by 1 to 6, or its size.
-pub fn opening_gate(opening: Opening) -> Result<(), Refusal> {
+pub fn opening_gate(opening: Opening) -> Result<(), Refusal>
+    ensures { IfOk result (λ _. opening.n ≤ 65536) }
+{
     funnel_gate(opening.n, opening.e)?;
     if opening.cap < 1 || 256 < opening.cap {
         return Err(Refusal::Named(Name::Limits));
@@ -43,7 +52,9 @@ pub fn opening_gate(opening: Opening) -> Result<(), Refusal> {
 }
 
 // A table of more slots than there is room for is too large.
-pub fn size_gate(n: u64) -> Result<(), Refusal> {
+pub fn size_gate(n: u64) -> Result<(), Refusal>
+    ensures { IfOk result (λ _. n ≤ 65536) }
+{
     if MOST_SLOTS < n {
         return Err(Refusal::Large);
     }
@@ -51,7 +62,9 @@ pub fn size_gate(n: u64) -> Result<(), Refusal> {
 }
 
 // What the fields that are left ask of a table of n slots, or none.
-pub fn operations_of(form: Form, fields: Fields, kind: Kind, n: u64) -> Option<Operations> {
+pub fn operations_of(form: Form, fields: Fields, kind: Kind, n: u64) -> Option<Operations>
+    ensures { IfSome result (λ operations. Asks form (length (fields_left fields.entry)) operations) }
+{
     match form {
         Form::Bulk => {
             let [start, many] = fields.just_numbers::<2>()?;

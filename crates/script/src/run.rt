@@ -1,4 +1,7 @@
 // A run: each operation carried out and answered, or in bulk counted, and the end of its answer.
+ghost use Rattle.std.specs.Prelude.{length};
+ghost use Rattle.script.specs.Run.{Puts};
+
 use crate::operation::{Edit, Operation, Operations};
 use crate::print::{Refusal, put_answer};
 use std::fmt;
@@ -22,9 +25,10 @@ pub trait Table {
     fn position(answer: Result<Self::Done, Refusal>) -> u64;
 }
 
-// The sums of probes and of positions over all insertions, and how often each refusal came.
+// The sums of probes and of positions over all insertions, how often each refusal came, and whether these are printed.
 #[derive(Clone, Copy)]
 pub struct Sums {
+    pub is_bulk: bool,
     pub probes: u64,
     pub positions: u64,
     pub refusals: Refusals,
@@ -64,8 +68,8 @@ impl Display for Refusals {
 
 // All operations of a run. The answers are printed, or, in bulk, only their refusals are counted.
 pub fn carry_out<T: Table>(operations: Operations, table: &mut T, out: &mut Out) -> Sums {
-    let is_bulk = operations.is_bulk();
     let mut sums = Sums {
+        is_bulk: operations.is_bulk(),
         probes: 0,
         positions: 0,
         refusals: Refusals([0; 32]),
@@ -84,7 +88,7 @@ pub fn carry_out<T: Table>(operations: Operations, table: &mut T, out: &mut Out)
                 continue;
             }
         };
-        if !is_bulk {
+        if !sums.is_bulk {
             put_answer(answer, out);
             write!(out, "; ");
         } else if let Err(refused) = answer {
@@ -95,19 +99,22 @@ pub fn carry_out<T: Table>(operations: Operations, table: &mut T, out: &mut Out)
 }
 
 // What an end begins with: `END` and the count, or in bulk the count, the refusals and the sum of the probes.
-pub fn put_end(is_bulk: bool, count: u64, sums: &Sums, out: &mut Out) {
-    if is_bulk {
+pub fn put_end(count: u64, sums: &Sums, out: &mut Out) {
+    if sums.is_bulk {
         write!(out, "{count} {} {}", sums.refusals, sums.probes);
     } else {
         write!(out, "END {count}");
     }
 }
 
-// Puts an identity into a slot.
-pub fn occupy(slot: u64, identity: u64, words: &mut [u64], flags: &mut [u8]) {
+// Puts a word and its flag into a slot, if there is one.
+pub fn put_slot(slot: u64, word: u64, flag: u8, words: &mut [u64], flags: &mut [u8])
+    ensures word { Puts slot word words.old (length flags.old) words.new }
+    ensures flag { Puts slot flag flags.old (length words.old) flags.new }
+{
     let slot = slot as usize;
     if slot < words.len() && slot < flags.len() {
-        words[slot] = identity;
-        flags[slot] = 1;
+        words[slot] = word;
+        flags[slot] = flag;
     }
 }

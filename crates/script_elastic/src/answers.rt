@@ -64,7 +64,7 @@ impl Display for Numbered {
     }
 }
 
-pub fn insert_refusal(refused: InsertRefusal) -> Refusal {
+pub(crate) fn insert_refusal(refused: InsertRefusal) -> Refusal {
     match refused {
         InsertRefusal::Gate(gate) => Refusal::from(gate),
         InsertRefusal::Duplicate(slot) => Refusal::Valued(Name::Duplicate, slot.0),
@@ -76,7 +76,7 @@ pub fn insert_refusal(refused: InsertRefusal) -> Refusal {
     }
 }
 
-pub fn query_refusal(refused: QueryRefusal) -> Refusal {
+pub(crate) fn query_refusal(refused: QueryRefusal) -> Refusal {
     match refused {
         QueryRefusal::Range(range) => Refusal::from(range),
         QueryRefusal::Absent => Refusal::Named(Name::Absent),

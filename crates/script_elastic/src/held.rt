@@ -1,15 +1,15 @@
 // A table opened in buffers of its length, and the run on it.
 use crate::answers::{Done, insert_refusal, query_refusal};
-use crate::setting::{Asked, asked_by};
+use crate::setting::{Asked, Setting, asked_by};
 use elastic::state::{State, open};
 use elastic_insert::insert::insert;
 use elastic_query::query::query;
 use script::digest::Digest;
-use script::operation::Edit;
-use script::print::Refusal;
+use script::operation::{Edit, Operations};
+use script::print::{Refusal, put_refusal};
 use script::request::Form;
-use script::run::{Sums, Table, carry_out, occupy, put_end};
-use text::buffers::word_buffer;
+use script::run::{Sums, Table, carry_out, put_end, put_slot};
+use text::buffers::{first_slots, word_buffer};
 use text::field::Fields;
 use text::out::Out;
 
@@ -39,7 +39,7 @@ impl<'a> Table for Held<'a> {
 
     fn edit(&mut self, edit: Edit) {
         match edit {
-            Edit::Occupy { slot, identity } => occupy(slot, identity, self.words, self.flags),
+            Edit::Occupy { slot, identity } => put_slot(slot, identity, 1, self.words, self.flags),
             Edit::Level { level, count } => {
                 if level < 32 {
                     self.counts[level as usize] = count;
@@ -67,58 +67,42 @@ impl<'a> Table for Held<'a> {
 
 // ERUN n e seed c wordcap searchcap poscap OPS, EBULK n e seed c wordcap searchcap poscap start count
 pub fn command(form: Form, fields: Fields, out: &mut Out) {
-    match asked_by(form, fields) {
-        Ok(asked) => in_buffers(asked, out),
-        Err(refused) => write!(out, "{refused}"),
-    }
+    put_refusal(carried_out(form, fields, out), out);
 }
 
-// The run in the first n slots of large buffers.
-fn in_buffers(asked: Asked, out: &mut Out) {
+fn carried_out(form: Form, fields: Fields, out: &mut Out) -> Result<(), Refusal> {
+    in_buffers(asked_by(form, fields)?, out)
+}
+
+// In the first n slots of large buffers. No `?` stands before these, which would have them zeroed twice.
+fn in_buffers(asked: Asked, out: &mut Out) -> Result<(), Refusal> {
     let mut words = word_buffer();
     let mut flags = io::large_buffer();
-    let n = asked.setting.n as usize;
-    if n <= words.len() && n <= flags.len() {
-        opened(asked, &mut words[..n], &mut flags[..n], out);
-    }
-}
-
-fn opened(asked: Asked, words: &mut [u64], flags: &mut [u8], out: &mut Out) {
-    let setting = asked.setting;
+    let slots = first_slots(asked.setting.n, &mut words, &mut flags);
+    let (words, flags) = slots.ok_or(Refusal::Large)?;
     let mut counts = [0; 32];
-    match open(
-        setting.n,
-        setting.e,
-        setting.seed,
-        setting.limits,
-        &mut counts,
+    let Setting { n, e, seed, limits } = asked.setting;
+    let st = open(n, e, seed, limits, &mut counts, words, flags)?;
+    let table = Held {
+        st,
+        counts,
         words,
         flags,
-    ) {
-        Ok(st) => run(
-            asked,
-            Held {
-                st,
-                counts,
-                words,
-                flags,
-            },
-            out,
-        ),
-        Err(gate) => write!(out, "{}", Refusal::from(gate)),
-    }
+    };
+    run(asked.operations, table, out);
+    Ok(())
 }
 
-fn run(asked: Asked, mut table: Held, out: &mut Out) {
-    let sums = carry_out(asked.operations, &mut table, out);
-    put_sums(asked.operations.is_bulk(), table.st.count, &sums, out);
+fn run(operations: Operations, mut table: Held, out: &mut Out) {
+    let sums = carry_out(operations, &mut table, out);
+    put_sums(table.st.count, &sums, out);
     put_table(&table, out);
 }
 
 // What an end begins with, and in bulk the sum of the positions.
-fn put_sums(is_bulk: bool, count: u64, sums: &Sums, out: &mut Out) {
-    put_end(is_bulk, count, sums, out);
-    if is_bulk {
+fn put_sums(count: u64, sums: &Sums, out: &mut Out) {
+    put_end(count, sums, out);
+    if sums.is_bulk {
         write!(out, " {}", sums.positions);
     }
 }

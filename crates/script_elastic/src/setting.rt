@@ -22,7 +22,7 @@ pub struct Asked<'a> {
 }
 
 // n e seed c wordcap searchcap poscap, and then the operations, or start and count; or what is answered in its place.
-pub fn asked_by(form: Form, fields: Fields) -> Result<Asked, Refusal> {
+pub(crate) fn asked_by(form: Form, fields: Fields) -> Result<Asked, Refusal> {
     let asked = command_of(form, fields).ok_or(Refusal::Unknown)?;
     let setting = asked.setting;
     setting_gate(setting.n, setting.e, setting.limits)?;

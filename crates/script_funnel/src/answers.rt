@@ -24,14 +24,14 @@ impl Display for Done {
     }
 }
 
-pub fn inserted(reached: Reached) -> Done {
+pub(crate) fn inserted(reached: Reached) -> Done {
     Done::Inserted {
         probes: reached.probes,
         place: reached.place,
     }
 }
 
-pub fn insert_refusal(refused: InsertRefusal) -> Refusal {
+pub(crate) fn insert_refusal(refused: InsertRefusal) -> Refusal {
     match refused {
         InsertRefusal::Duplicate { probes, place } => Refusal::Duplicate { probes, place },
         InsertRefusal::Range(range) => Refusal::from(range),
@@ -40,7 +40,7 @@ pub fn insert_refusal(refused: InsertRefusal) -> Refusal {
     }
 }
 
-pub fn searched(found: Search) -> Result<Done, Refusal> {
+pub(crate) fn searched(found: Search) -> Result<Done, Refusal> {
     match found {
         Search::Hit { probes, place } => Ok(Done::Hit { probes, place }),
         Search::Vacant { probes, place } => Ok(Done::Vacant { probes, place }),

@@ -6,7 +6,7 @@ use refusal::Name;
 use script::digest::Digest;
 use script::operation::{Edit, Operations};
 use script::print::Refusal;
-use script::run::{Table, carry_out, occupy, put_end};
+use script::run::{Table, carry_out, put_end, put_slot};
 use text::out::Out;
 
 // An open table.
@@ -34,7 +34,7 @@ impl<'a> Table for Held<'a> {
     // No level of a funnel table has a count.
     fn edit(&mut self, edit: Edit) {
         match edit {
-            Edit::Occupy { slot, identity } => occupy(slot, identity, self.words, self.flags),
+            Edit::Occupy { slot, identity } => put_slot(slot, identity, 1, self.words, self.flags),
             Edit::Level { .. } => {}
             Edit::Count(count) => self.table.count = count,
         }
@@ -66,6 +66,6 @@ impl<'a> Held<'a> {
 
 pub fn run(operations: Operations, table: &mut Held, out: &mut Out) {
     let sums = carry_out(operations, table, out);
-    put_end(operations.is_bulk(), table.table.count, &sums, out);
+    put_end(table.table.count, &sums, out);
     table.put_digest(out);
 }

@@ -4,7 +4,7 @@ use audit_calls::check::{CheckRefusal, check};
 use refusal::Name;
 use script::print::Refusal;
 use script_funnel::runs::Held;
-use text::buffers::word_buffer;
+use text::buffers::{first_slots, word_buffer};
 use text::out::Out;
 
 // What a mark, and an entry of the order, hold on entry.
@@ -13,13 +13,13 @@ const MARK: u8 = 9;
 const ONES: u64 = u64::MAX;
 
 // The call on a table, and its answer.
-pub fn run(table: &Held, out: &mut Out) {
-    let mut marks = io::large_buffer();
+pub(crate) fn run(table: &Held, out: &mut Out) {
     let mut order = word_buffer();
-    let n = table.words.len();
+    let mut marks = io::large_buffer();
+    let n = table.words.len() as u64;
     // The call has the first n entries of large buffers.
-    if n <= marks.len() && n <= order.len() {
-        audited(table, &mut marks[..n], &mut order[..n], out);
+    if let Some((order, marks)) = first_slots(n, &mut order, &mut marks) {
+        audited(table, marks, order, out);
     }
 }
 
@@ -75,7 +75,7 @@ fn is_kept(marks: &[u8], order: &[u64]) -> bool {
 }
 
 // What stands behind an answer where a buffer is not as it must be.
-pub fn put_kept(is_kept: bool, out: &mut Out) {
+pub(crate) fn put_kept(is_kept: bool, out: &mut Out) {
     if !is_kept {
         out.put(b" CHANGED");
     }

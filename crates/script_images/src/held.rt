@@ -1,55 +1,42 @@
 // A table opened in buffers of its length, and the task done on it.
 use crate::{check, load, write};
 use funnel_calls::calls::open;
-use script::print::Refusal;
+use script::print::{Refusal, put_refusal};
+use script::request::Opening;
 use script_funnel::runs::{Held, run};
 use script_tasks::entries::put_entries;
 use script_tasks::request::{Asked, Task, Verb, asked_by};
-use text::buffers::word_buffer;
+use text::buffers::{first_slots, word_buffer};
 use text::field::Fields;
 use text::out::Out;
 
 // The answer to a command.
 pub fn command(verb: Verb, fields: Fields, out: &mut Out) {
-    match asked_by(verb, fields) {
-        Ok(asked) => in_buffers(asked, out),
-        Err(refused) => write!(out, "{refused}"),
-    }
+    put_refusal(carried_out(verb, fields, out), out);
 }
 
-// The task in the first n slots of large buffers.
-fn in_buffers(asked: Asked, out: &mut Out) {
+fn carried_out(verb: Verb, fields: Fields, out: &mut Out) -> Result<(), Refusal> {
+    in_buffers(asked_by(verb, fields)?, out)
+}
+
+// In the first n slots of large buffers. No `?` stands before these, which would have them zeroed twice. `script_elastic` has the same
+// calls in a row, as it has `asked_by`, on its own types: a trait over both would name each call once more.
+fn in_buffers(asked: Asked, out: &mut Out) -> Result<(), Refusal> {
     let mut words = word_buffer();
     let mut flags = io::large_buffer();
-    let n = asked.opening.n as usize;
-    if n <= words.len() && n <= flags.len() {
-        opened(asked, &mut words[..n], &mut flags[..n], out);
-    }
-}
-
-fn opened(asked: Asked, words: &mut [u64], flags: &mut [u8], out: &mut Out) {
-    let opening = asked.opening;
+    let slots = first_slots(asked.opening.n, &mut words, &mut flags);
+    let (words, flags) = slots.ok_or(Refusal::Large)?;
     let mut counts = [0; 118];
-    match open(
-        opening.n,
-        opening.e,
-        opening.seed,
-        opening.cap,
-        &mut counts,
+    let Opening { n, e, seed, cap } = asked.opening;
+    let table = open(n, e, seed, cap, &mut counts, words, flags)?;
+    let mut held = Held {
+        table,
+        counts: &counts,
         words,
         flags,
-    ) {
-        Ok(table) => {
-            let mut held = Held {
-                table,
-                counts: &counts,
-                words,
-                flags,
-            };
-            answer(asked.task, &mut held, out);
-        }
-        Err(gate) => write!(out, "{}", Refusal::from(gate)),
-    }
+    };
+    answer(asked.task, &mut held, out);
+    Ok(())
 }
 
 // WRITE and CHECK are of a table that holds the entries.

@@ -10,7 +10,7 @@
 
 #![tactic(auto)]
 
-pub mod check;
+mod check;
 pub mod held;
-pub mod load;
-pub mod write;
+mod load;
+mod write;

@@ -10,7 +10,7 @@ use text::buffers::image_buffer;
 use text::out::Out;
 
 // The call on a fresh table, and its answer.
-pub fn run(image: &[u8], table: &mut Held, out: &mut Out) {
+pub(crate) fn run(image: &[u8], table: &mut Held, out: &mut Out) {
     for (slot, word) in table.words.iter_mut().enumerate() {
         *word = before(slot);
     }

@@ -9,7 +9,7 @@ use text::buffers::image_buffer;
 use text::out::Out;
 
 // The call, and its answer.
-pub fn run(label: &[u8], room: u64, table: &Held, out: &mut Out) {
+pub(crate) fn run(label: &[u8], room: u64, table: &Held, out: &mut Out) {
     let mut image = image_buffer();
     match written(label, room as usize, table, &mut image) {
         Ok(len) => {

@@ -6,7 +6,7 @@ use script::print::{Numbers, Refusal};
 use words::product::Wide;
 
 // A domain by its tag and level, of which a special one has none.
-pub fn domain(tag: u64, level: u64) -> Result<Domain, Refusal> {
+pub(crate) fn domain(tag: u64, level: u64) -> Result<Domain, Refusal> {
     match (tag, level) {
         (0, _) => Ok(Domain::Ordinary { level }),
         (1, 0) => Ok(Domain::Primary),
@@ -17,14 +17,14 @@ pub fn domain(tag: u64, level: u64) -> Result<Domain, Refusal> {
 }
 
 // A counter, or a word at one, if it can be packed.
-pub fn number_or_counter(packed: Option<u64>) -> Result<Numbers, Refusal> {
+pub(crate) fn number_or_counter(packed: Option<u64>) -> Result<Numbers, Refusal> {
     packed
         .map(Numbers::from)
         .ok_or(Refusal::Named(Name::Counter))
 }
 
 // An index and its words.
-pub fn index_or(reduced: Result<Index, ReduceRefusal>) -> Result<Numbers, Refusal> {
+pub(crate) fn index_or(reduced: Result<Index, ReduceRefusal>) -> Result<Numbers, Refusal> {
     match reduced {
         Ok(Index { index, words }) => Ok(Numbers {
             first: Wide { hi: 0, lo: index },

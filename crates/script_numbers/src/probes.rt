@@ -82,12 +82,12 @@ fn draw(word: &[u8], fields: Fields) -> Result<Numbers, Refusal> {
 }
 
 // The fields as just so many numbers.
-pub fn arguments<const N: usize>(fields: Fields) -> Result<[u64; N], Refusal> {
+pub(crate) fn arguments<const N: usize>(fields: Fields) -> Result<[u64; N], Refusal> {
     fields.just_numbers::<N>().ok_or(Refusal::Unknown)
 }
 
 // An argument of 32 bits.
-pub fn of_32_bits(x: u64) -> Result<u32, Refusal> {
+pub(crate) fn of_32_bits(x: u64) -> Result<u32, Refusal> {
     u32::try_from(x).map_err(|_| Refusal::Unknown)
 }
 

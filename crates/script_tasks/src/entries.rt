@@ -1,5 +1,6 @@
 // What a table holds, as WRITE and CHECK are told it: SLOT=ID, which is flagged 1, or SLOT=ID:FLAG.
 use script::operation::{split_at_byte, split_pair};
+use script::run::put_slot;
 use text::field::{Fields, number};
 
 #[derive(Clone, Copy)]
@@ -27,16 +28,8 @@ fn entry_in(field: &[u8]) -> Option<Entry> {
 // Puts all entries into a table, one after the other.
 pub fn put_entries(fields: Fields, words: &mut [u64], flags: &mut [u8]) {
     for field in fields {
-        if let Some(entry) = entry_in(field) {
-            put_entry(entry, words, flags);
+        if let Some(Entry { slot, word, flag }) = entry_in(field) {
+            put_slot(slot, word, flag, words, flags);
         }
-    }
-}
-
-fn put_entry(entry: Entry, words: &mut [u64], flags: &mut [u8]) {
-    let slot = entry.slot as usize;
-    if slot < words.len() && slot < flags.len() {
-        words[slot] = entry.word;
-        flags[slot] = entry.flag;
     }
 }

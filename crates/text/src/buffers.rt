@@ -1,6 +1,11 @@
 // The large arrays of the programs. Each comes from a function whose contract gives its length, which lending it as a slice
+<<<<<<< HEAD
 // needs: the checker then need not count the elements. They are arrays, since the programs take no heap.
 ghost use Rattle.std.specs.Prelude.{◌≡◌, length};
+=======
+// needs: the checker then need not count the elements.
+ghost use Rattle.std.specs.Prelude.{◌≡◌, length, IfSome};
+>>>>>>> d4d92aa6b8393b6bb4331fce01a8d691a42d7fb0
 
 // The most slots that a table has in a program.
 pub const MOST_SLOTS: u64 = 65536;
@@ -20,4 +25,16 @@ pub fn image_buffer() -> [u8; 1048735]
     ensures { 1048735 ≡ length result }
 {
     [0; 1048735]
+}
+
+// What a table of n slots takes of buffers of words and of flags, or none where they have fewer.
+pub fn first_slots<'a>(
+    n: u64,
+    words: &'a mut [u64],
+    flags: &'a mut [u8],
+) -> Option<(&'a mut [u64], &'a mut [u8])>
+    ensures { IfSome result (λ first. (length first.0.now ≡ n) × (length first.1.now ≡ n)) }
+{
+    let n = n as usize;
+    Some((words.get_mut(..n)?, flags.get_mut(..n)?))
 }

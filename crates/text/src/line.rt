@@ -45,8 +45,11 @@ fn keep(line: &mut [u8], len: usize, b: u8) -> usize
 
 // A program that answers lines, each by itself.
 pub trait Answer {
-    // Prints the answer to a line; none is one that its buffer does not hold.
-    fn answer(line: Option<&[u8]>, out: &mut Out);
+    // What a line is answered that the buffer does not hold.
+    const LONG: u8;
+
+    // Prints the answer to a line, or nothing where the line asks nothing.
+    fn answer(line: &[u8], out: &mut Out) -> Option<()>;
 }
 
 // The bytes of the last line so far, in a buffer of one byte more than the longest line, which tells a longer one.
@@ -78,12 +81,12 @@ impl<'a> Lines<'a> {
     }
 
     fn answer<A: Answer>(&self, out: &mut Out) {
-        let line = if self.length < self.bytes.len() {
-            Some(&self.bytes[..self.length])
-        } else {
-            None
-        };
-        A::answer(line, out);
+        if self.bytes.len() <= self.length {
+            out.byte(A::LONG);
+        } else if A::answer(&self.bytes[..self.length], out).is_none() {
+            out.byte(b'?');
+        }
+        out.byte(b'\n');
     }
 
     // The last line may lack its newline.
