@@ -1,11 +1,6 @@
 // The large arrays of the programs. Each comes from a function whose contract gives its length, which lending it as a slice
-<<<<<<< HEAD
 // needs: the checker then need not count the elements. They are arrays, since the programs take no heap.
-ghost use Rattle.std.specs.Prelude.{◌≡◌, length};
-=======
-// needs: the checker then need not count the elements.
 ghost use Rattle.std.specs.Prelude.{◌≡◌, length, IfSome};
->>>>>>> d4d92aa6b8393b6bb4331fce01a8d691a42d7fb0
 
 // The most slots that a table has in a program.
 pub const MOST_SLOTS: u64 = 65536;
