@@ -129,8 +129,19 @@ pub fn write_label(label: &[u8], out: &mut [u8], at: usize) -> usize
         return at;
     }
     write_head(out, at, 4, n as u64);
-    out[at + 3..at + 3 + n].copy_from_slice(label);
+    copy_in(label, out, at + 3);
     at + 3 + n
+}
+
+// A slice copied to `at`. Byte by byte, since the library's `copy_from_slice` of any length is a call of memmove, and the library for C asks its
+// surroundings for memcpy and memset alone.
+fn copy_in(part: &[u8], out: &mut [u8], at: usize)
+    requires { at + length part.now ≤ length out.old }
+    ensures { out.new ≡ sets out.old at part.now }
+{
+    for (i, b) in part.iter().enumerate() {
+        out[at + i] = *b;
+    }
 }
 
 // The fields of entries; the offset after them. The loop is over fields, of which each says from which slot the next goes on.
