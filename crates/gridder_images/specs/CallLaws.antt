@@ -1,5 +1,5 @@
 -- Laws of the exported calls on images, by what their gate said. Assumes nothing.
-use Rattle.std.specs.Prelude.{Result, Ok, Err, Option, Some, None, refl, true, false, ◌≡◌, ℕ, ◌*◌, ◌^◌, ◌≤◌, length, replicate}
+use Rattle.std.specs.Prelude.{Result, Ok, Err, refl, true, false, ◌≡◌, ℕ, ◌*◌, ◌^◌, ◌≤◌, length, replicate}
 use mathlib.Core.List.{List, []}
 use Rattle.std.proofs.Math.Path.{ap, sym}
 use Rattle.std.proofs.Common.{◌∙◌, arith}
@@ -25,7 +25,7 @@ use Rattle.gridder_calls.specs.Enter.{Entry, Enters, refusal_reply}
 use Rattle.gridder_calls.specs.EnterLaws.{words_are_lem, entry_unheld, entry_refused, entry_open, entry_ready}
 use Rattle.gridder_calls.specs.declared.enter.EnterRefusal.{EnterRefusal}
 use Rattle.gridder_calls.specs.declared.enter.EnterRefusal.TheVariants as entered
-use Rattle.gridder_state.specs.State.{holds_funnel, table_in, counts_in, Reads, with_count_in}
+use Rattle.gridder_state.specs.State.{holds_funnel, table_in, counts_in, with_count_in}
 use Rattle.gridder_images.specs.Calls.{filled_in, load_left, load_call, sent, write_call_gate, write_state_gate, write_left, write_call}
 use Rattle.gridder_images.specs.Say.{filled_fields, filled_number, written_fields}
 use Rattle.gridder_images.specs.SayLaws.{loaded_number}
@@ -78,17 +78,6 @@ pub load_unheld : (state words flags image answer : List ℕ) (number : ℕ) →
     → left number answer state (words_of words) flags ≡ load_call state words flags image answer
 unfolding load_call
 load_unheld state words flags image answer number h e = sym (rw (h, e))
-
--- ---- what the writer's call reads
-
-module _ (state before : List ℕ) (read : Option FunnelTable) (counts : List ℕ) (reads : Reads state before read counts) where
-  pub read_none : read ≡ None → holds_funnel state ≡ false
-  unfolding Reads
-  read_none n = (rw n at reads).0
-
-  pub read_some : (table : FunnelTable) → read ≡ Some table → (holds_funnel state ≡ true) × (table ≡ table_in state) × (counts ≡ counts_in state)
-  unfolding Reads
-  read_some table h = rw h at reads
 
 -- ---- the writer's gate
 
