@@ -70,7 +70,10 @@ pub fn holds<E: Stored>(words: &[E], flags: &[u8], id: u64, slot: u64) -> bool
     requires { (slot < length (E.words words.now)) × (slot < length flags.now) }
     ensures { result ≡ holds_at (E.words words.now) flags.now id slot }
 {
-    flags[slot as usize] != 0 && E::word(words, slot) == id
+    if flags[slot as usize] == 0 {
+        return false;
+    }
+    E::word(words, slot) == id
 }
 
 // The smallest slot that holds an identity. An identity that is not there is mostly not among the words either, and these are

@@ -184,6 +184,10 @@ first_of_part b from to o r e f g h =
           here = λ l c. set_of _ (passes_at_first (λ x. not (eqb x 0)) part 0 (omega arith)) (rw (← q) (here r (omega arith) ∙ c));
         }
 
+-- by a number that is the same
+pub first_same : {b : List ℕ} {from to r s : ℕ} → r ≡ s → FirstSet b from to r → FirstSet b from to s
+first_same e f = rw e at f
+
 -- ---- a range of bytes set to 0, as a loop that counts up makes it
 
 pub wiped_none : (b : List ℕ) (from : ℕ) → Wiped b b from from

@@ -8,8 +8,10 @@ pub fn first_set(b: &[u8], from: u64, to: u64) -> u64
     requires { (from ≤ to) × (to ≤ length b.now) }
     ensures { FirstSet b.now from to result }
 {
-    let flags = &b[from as usize..to as usize];
-    from + first_place(flags).unwrap_or(flags.len()) as u64
+    match first_place(&b[from as usize..to as usize]) {
+        Some(place) => from + place as u64,
+        None => to,
+    }
 }
 
 // The first place of these flags that is not 0.
